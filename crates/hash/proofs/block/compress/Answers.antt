@@ -1,0 +1,7 @@
+use mathlib.Core.Path.{_≡_, sym, _∙_, ap}
+use Rattle.hash.specs.Compression.{compressed}
+use Rattle.hash.proofs.block.compress.Needs as need
+
+pub returns : need.returns
+unfolding compressed
+returns c = cc

@@ -1,0 +1,2 @@
+// SHA-256 and HMAC-SHA-256, each equal to its definition in specs/.
+mod block;
