@@ -16,10 +16,14 @@ padding n = 128 ∷ (replicate ((119 - n % 64) % 64) 0 ++ big-endian 8 (8 * n))
 abbrev pub block : List ℕ → ℕ → List ℕ
 block bytes k = take 64 (drop (64 * k) bytes)
 
--- The hash value after n blocks, from a hash value before them.
+-- The hash value after n blocks, from the hash value before them.
 unfoldable pub after-blocks : Words → List ℕ → ℕ → Words
 after-blocks s bytes zero = s
 after-blocks s bytes (suc n) = compressed (after-blocks s bytes n) (block bytes n)
+
+-- The hash value after all blocks.
+abbrev pub after-all : Words → List ℕ → Words
+after-all s bytes = after-blocks s bytes (length bytes / 64)
 
 -- The 32 bytes of a hash value.
 abbrev pub bytes-of : Words → List ℕ
@@ -28,5 +32,8 @@ bytes-of s =
 
 -- SHA-256: the hash value after all blocks of the padded message.
 unfoldable pub sha256 : List ℕ → List ℕ
-sha256 message =
-    let padded : List ℕ = message ++ padding (length message) in bytes-of (after-blocks initial padded (length padded / 64))
+sha256 message = bytes-of (after-all initial (message ++ padding (length message)))
+
+-- The hash of a message from its rest alone, where the bytes before it, whole blocks, gave a hash value.
+unfoldable pub resumed : Words → ℕ → List ℕ → List ℕ
+resumed s before rest = bytes-of (after-all s (rest ++ padding (before + length rest)))

@@ -3,6 +3,7 @@ ghost use mathlib.Core.Path.{_≡_};
 ghost use Prim.Native.Nat.{ℕ, _+_, _≤_};
 ghost use lib.ListN.{length, take};
 ghost use Rattle.hash.specs.Compression.{words, schedule, round, rounds, added, compressed};
+ghost use Rattle.hash.specs.Constants.{initial};
 ghost use Rattle.hash.specs.Digest.{bytes-of as digest-bytes};
 ghost use Rattle.hash.specs.Words.{ch as chosen, maj as most, big-sigma0, big-sigma1, small-sigma0, small-sigma1};
 
@@ -158,4 +159,20 @@ pub(crate) fn bytes_of(s: Words) -> [u8; 32]
         a[0], a[1], a[2], a[3], b[0], b[1], b[2], b[3], c[0], c[1], c[2], c[3], d[0], d[1], d[2], d[3], e[0], e[1], e[2], e[3], f[0], f[1],
         f[2], f[3], g[0], g[1], g[2], g[3], h[0], h[1], h[2], h[3],
     ]
+}
+
+// The hash value before the first block.
+pub(crate) fn first_value() -> Words
+    ensures { λ r. ⌜ r ≡ initial ⌝ }
+{
+    Words {
+        a: 0x6a09e667,
+        b: 0xbb67ae85,
+        c: 0x3c6ef372,
+        d: 0xa54ff53a,
+        e: 0x510e527f,
+        f: 0x9b05688c,
+        g: 0x1f83d9ab,
+        h: 0x5be0cd19,
+    }
 }
