@@ -1,10 +1,10 @@
-use Prim.Native.Nat.{ℕ, _+_, _-_, _*_, _<_, _≤_}
+use Prim.Native.Nat.{ℕ, zero, suc, _+_, _-_, _*_, _<_, _≤_}
 use mathlib.Core.Path.{_≡_, refl, sym, _∙_, ap}
 use mathlib.Core.List.{List, [], _∷_, _++_}
 use native.Mathlib.Numerals.{add-one}
 use native.Mathlib.Omega.{arith}
-use lib.ListN.{getD, take}
-use Rattle.std.proofs.shelf.Lists.{getD-take}
+use lib.ListN.{length, getD, take}
+use Rattle.std.proofs.shelf.Lists.{getD-take, length-push, take-all, take-append-le, take-take}
 use Rattle.hash.specs.declared.block.Words.{Words}
 use Rattle.hash.specs.Bytes.{word-at}
 use Rattle.hash.specs.Compression.{words, next-word, schedule, round, rounds}
@@ -50,9 +50,33 @@ pub table-stands : constants ≡ table
 unfolding constants fraction root
 table-stands = refl
 
--- one round more, with the constant as the code reads it
-pub round-follows : (ws : List ℕ) (start : Words) {s r : Words} (i j : ℕ) → i + 1 ≡ j → s ≡ rounds ws start i
-    → r ≡ round s (getD table i 0) (getD ws i 0) → r ≡ rounds ws start j
-round-follows ws start i j next before after =
-    after ∙ ap (λ t. round t (getD table i 0) (getD ws i 0)) before ∙ ap (λ t. round (rounds ws start i) (getD t i 0) (getD ws i 0)) (sym table-stands)
-    ∙ sym (rounds-more ws start i) ∙ ap (rounds ws start) next
+-- one round more, with the constant and the word as the code reads them
+pub round-follows : (ws all : List ℕ) (start : Words) {s r : Words} (i j end : ℕ) → i < end → take end ws ≡ take end all → i + 1 ≡ j
+    → s ≡ rounds all start i → r ≡ round s (getD table i 0) (getD ws i 0) → r ≡ rounds all start j
+round-follows ws all start i j end within same next before after =
+    let word : getD ws i 0 ≡ getD all i 0 = sym (getD-take end ws i 0 within) ∙ ap (λ l. getD l i 0) same ∙ getD-take end all i 0 within in
+    after ∙ ap (λ t. round t (getD table i 0) (getD ws i 0)) before ∙ ap (λ t. round (rounds all start i) (getD t i 0) (getD ws i 0)) (sym table-stands)
+    ∙ ap (round (rounds all start i) (getD constants i 0)) word ∙ sym (rounds-more all start i) ∙ ap (rounds all start) next
+
+pub length-schedule : (first : List ℕ) (n : ℕ) → length (schedule first n) ≡ length first + n
+unfolding schedule
+length-schedule first zero = omega arith
+length-schedule first (suc n) = length-push (schedule first n) _ ∙ omega (arith, length-schedule first n)
+
+-- a longer schedule begins with a shorter one
+pub schedule-front : (first : List ℕ) (n more : ℕ) → length first ≡ 16 → take (16 + n) (schedule first (n + more)) ≡ schedule first n
+schedule-front first n zero h =
+    let e : n + 0 ≡ n = omega arith in
+    ap (λ k. take (16 + n) (schedule first k)) e ∙ take-all (16 + n) (schedule first n) (omega (arith, length-schedule first n))
+schedule-front first n (suc more) h =
+    let e : n + suc more ≡ (n + more) + 1 = omega arith in
+    ap (λ k. take (16 + n) (schedule first k)) e ∙ ap (take (16 + n)) (schedule-more first (n + more))
+    ∙ take-append-le (16 + n) (schedule first (n + more)) _ (omega (arith, length-schedule first (n + more))) ∙ schedule-front first n more h
+
+-- the words that stand so far are those of the whole schedule
+pub stands-so-far : (ws first : List ℕ) (n k : ℕ) → length first ≡ 16 → n ≤ 48 → k ≤ 16 + n → take (16 + n) ws ≡ schedule first n
+    → take k ws ≡ take k (schedule first 48)
+stands-so-far ws first n k h small near e =
+    let whole : n + (48 - n) ≡ 48 = omega arith in
+    let f : take (16 + n) ws ≡ take (16 + n) (schedule first 48) = e ∙ sym (schedule-front first n (48 - n) h) ∙ ap (λ m. take (16 + n) (schedule first m)) whole in
+    sym (take-take k (16 + n) ws near) ∙ ap (take k) f ∙ take-take k (16 + n) (schedule first 48) near

@@ -1,6 +1,7 @@
 // One block of SHA-256: its schedule and its 64 rounds.
 ghost use mathlib.Core.Path.{_≡_};
-ghost use Prim.Native.Nat.{ℕ, _+_, _≤_};
+ghost use mathlib.Core.List.{List};
+ghost use Prim.Native.Nat.{ℕ, _+_, _-_, _≤_};
 ghost use lib.ListN.{length, take};
 ghost use Rattle.hash.specs.Compression.{words, schedule, round, rounds, added, compressed};
 ghost use Rattle.hash.specs.Constants.{initial};
@@ -73,7 +74,7 @@ impl Words {
     // Eight rounds, from the round i on. Written out, they move no word from one variable to the next.
     fn eight_rounds(self, ws: &[u32; 64], i: usize) -> Words
         requires { ⌜ i + 8 ≤ 64 ⌝ }
-        ensures { λ r. ⌜ ((start : Words) → self ≡ rounds (now (ws .entry)) start i → r ≡ rounds (now (ws .entry)) start (i + 8)) ⌝ }
+        ensures { λ r. ⌜ ((all : List ℕ) (start : Words) → take (i + 8) (now (ws .entry)) ≡ take (i + 8) all → self ≡ rounds all start i → r ≡ rounds all start (i + 8)) ⌝ }
     {
         let s1 = self.round(K[i], ws[i]);
         let s2 = s1.round(K[i + 1], ws[i + 1]);
@@ -113,23 +114,27 @@ fn load(block: &[u8], ws: &mut [u32; 64])
     }
 }
 
-// The rest of the schedule whose first sixteen words stand.
-fn expand(ws: &mut [u32; 64])
-    ensures { λ _. ⌜ now (ws .exit) ≡ schedule (take 16 (now (ws .entry))) 48 ⌝ }
+// Eight words more of a schedule that stands as far as i.
+fn extend(ws: &mut [u32; 64], from: usize)
+    requires { ⌜ 16 ≤ from ⌝ ∗ ⌜ from + 8 ≤ 64 ⌝ }
+    ensures { λ _. ⌜ ((first : List ℕ) → take from (now (ws .entry)) ≡ schedule first (from - 16) → take (from + 8) (now (ws .exit)) ≡ schedule first (from - 8)) ⌝ }
 {
-    for i in 16..64 {
+    for i in from..from + 8 {
         ws[i] = sigma1(ws[i - 2]).wrapping_add(ws[i - 7]).wrapping_add(sigma0(ws[i - 15])).wrapping_add(ws[i - 16]);
     }
 }
 
-fn all_rounds(start: Words, ws: &[u32; 64]) -> Words
-    ensures { λ r. ⌜ r ≡ rounds (now (ws .entry)) start 64 ⌝ }
+// All rounds over a block's sixteen words. The schedule is made between the rounds, so that the two overlap.
+fn all_rounds(start: Words, ws: &mut [u32; 64]) -> Words
+    ensures { λ r. ⌜ r ≡ rounds (schedule (take 16 (now (ws .entry))) 48) start 64 ⌝ }
 {
     let mut s = start;
-    for j in 0..8 {
+    for j in 0..6 {
         s = s.eight_rounds(ws, 8 * j);
+        extend(ws, 8 * j + 16);
     }
-    s
+    let t = s.eight_rounds(ws, 48);
+    t.eight_rounds(ws, 56)
 }
 
 // The hash value after one more block.
@@ -139,8 +144,7 @@ pub(crate) fn compress(start: Words, block: &[u8]) -> Words
 {
     let mut ws = [0u32; 64];
     load(block, &mut ws);
-    expand(&mut ws);
-    start.add(all_rounds(start, &ws))
+    start.add(all_rounds(start, &mut ws))
 }
 
 // The 32 bytes of a hash value.
