@@ -34,7 +34,7 @@ after-rest s xs ys m zero h = ap (after-blocks s (xs ++ ys)) (omega arith) ∙ a
 after-rest s xs ys m (suc n) h =
     let at : 64 * (m + n) ≡ length xs + 64 * n = omega arith in
     let d : drop (64 * (m + n)) (xs ++ ys) ≡ drop (64 * n) ys =
-            ap (λ k. drop k (xs ++ ys)) at ∙ sym (drop-drop (64 * n) (length xs) (xs ++ ys)) ∙ ap (drop (64 * n)) (drop-at xs ys (length xs) refl)
+    ap (λ k. drop k (xs ++ ys)) at ∙ sym (drop-drop (64 * n) (length xs) (xs ++ ys)) ∙ ap (drop (64 * n)) (drop-at xs ys (length xs) refl)
     in
     ap (after-blocks s (xs ++ ys)) (omega arith) ∙ after-more s (xs ++ ys) (m + n) ∙ ap (λ t. compressed t (block (xs ++ ys) (m + n))) (after-rest s xs ys m n h)
     ∙ ap (λ b. compressed (after-blocks (after-blocks s xs m) ys n) (take 64 b)) d

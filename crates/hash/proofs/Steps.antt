@@ -6,7 +6,7 @@ use native.Mathlib.Omega.{arith}
 use lib.ListN.{length, getD, take}
 use Rattle.std.proofs.shelf.Lists.{getD-take, length-push, take-all, take-append-le, take-take}
 use Rattle.hash.specs.declared.block.Words.{Words}
-use Rattle.hash.specs.Bytes.{word-at}
+use Rattle.hash.specs.Bytes.{number-at}
 use Rattle.hash.specs.Compression.{words, next-word, schedule, round, rounds}
 use Rattle.hash.specs.Constants.{constants, fraction, root, primes}
 
@@ -15,7 +15,7 @@ pub words-none : (block : List ℕ) → words block 0 ≡ []
 unfolding words
 words-none block = refl
 
-pub words-more : (block : List ℕ) (n : ℕ) → words block (n + 1) ≡ words block n ++ word-at block (4 * n) ∷ []
+pub words-more : (block : List ℕ) (n : ℕ) → words block (n + 1) ≡ words block n ++ number-at 4 block (4 * n) ∷ []
 unfolding words
 words-more block n = rw add-one
 

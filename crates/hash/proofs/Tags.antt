@@ -23,10 +23,10 @@ resumed-block b text long =
     let size : 64 + length text ≡ all = omega (arith, length-append b text) in
     let rest = text ++ padding all in
     let first : compressed initial b ≡ after-blocks initial b 1 =
-            sym (after-more initial b 0 ∙ ap (λ v. compressed v (block b 0)) (after-none initial b) ∙ ap (compressed initial) (take-all 64 b (omega arith)))
+    sym (after-more initial b 0 ∙ ap (λ v. compressed v (block b 0)) (after-none initial b) ∙ ap (compressed initial) (take-all 64 b (omega arith)))
     in
     let count : 1 + length rest / 64 ≡ length ((b ++ text) ++ padding all) / 64 =
-            omega (arith, length-append (b ++ text) (padding all), length-append b text, length-append text (padding all))
+    omega (arith, length-append (b ++ text) (padding all), length-append b text, length-append text (padding all))
     in
     ap bytes-of
     (ap (λ n. after-all (compressed initial b) (text ++ padding n)) size ∙ ap (λ v. after-all v rest) first ∙ sym (after-rest initial b rest 1 (length rest / 64) long)

@@ -37,9 +37,9 @@ module _ (s : Words) (before : ℕ) (h : Hasher) (m bytes tail : List ℕ) (took
         whole = took .whole;
         value = took .value ∙ sym (after-front s m bytes (length m / 64) front) ∙ ap (after-blocks s (m ++ bytes)) (sym q);
         rest =
-          ap (λ k. take k tail) r ∙ laid ∙ ap (λ t. t ++ bytes) (took .rest) ∙ sym (drop-append-le (64 * (length m / 64)) m bytes front)
-          ∙ ap (λ k. drop (64 * k) (m ++ bytes)) (sym q);
-        count = counted n size
+            ap (λ k. take k tail) r ∙ laid ∙ ap (λ t. t ++ bytes) (took .rest) ∙ sym (drop-append-le (64 * (length m / 64)) m bytes front)
+            ∙ ap (λ k. drop (64 * k) (m ++ bytes)) (sym q);
+        count = counted n size;
       }
 
   -- bytes that just fill the block
@@ -59,10 +59,10 @@ module _ (s : Words) (before : ℕ) (h : Hasher) (m bytes tail : List ℕ) (took
       record {
         whole = took .whole;
         value =
-          e ∙ ap (λ v. compressed v tail) (took .value ∙ sym (after-front s m bytes k front)) ∙ ap (compressed (after-blocks s (m ++ bytes) k)) (sym b)
-          ∙ sym (after-more s (m ++ bytes) k) ∙ ap (after-blocks s (m ++ bytes)) (sym q);
+            e ∙ ap (λ v. compressed v tail) (took .value ∙ sym (after-front s m bytes k front)) ∙ ap (compressed (after-blocks s (m ++ bytes) k)) (sym b)
+            ∙ sym (after-more s (m ++ bytes) k) ∙ ap (after-blocks s (m ++ bytes)) (sym q);
         rest = ap (λ k. take k tail) r ∙ sym (drop-all (64 * (length (m ++ bytes) / 64)) (m ++ bytes) (omega arith));
-        count = counted n size
+        count = counted n size;
       }
 
   -- bytes after whole blocks
@@ -79,13 +79,13 @@ module _ (s : Words) (before : ℕ) (h : Hasher) (m bytes tail : List ℕ) (took
       let whole-m : length m ≡ 64 * k = omega arith in
       let at : length m + 64 * j ≡ 64 * (length (m ++ bytes) / 64) = omega arith in
       let d : drop (64 * j) bytes ≡ drop (64 * (length (m ++ bytes) / 64)) (m ++ bytes) =
-              ap (drop (64 * j)) (sym (drop-at m bytes (length m) refl)) ∙ drop-drop (64 * j) (length m) (m ++ bytes) ∙ ap (λ i. drop i (m ++ bytes)) at
+      ap (drop (64 * j)) (sym (drop-at m bytes (length m) refl)) ∙ drop-drop (64 * j) (length m) (m ++ bytes) ∙ ap (λ i. drop i (m ++ bytes)) at
       in
       record {
         whole = took .whole;
         value = e ∙ ap (λ v. after-blocks v bytes j) (took .value) ∙ sym (after-rest s m bytes k j whole-m) ∙ ap (after-blocks s (m ++ bytes)) (sym q);
         rest = ap (λ i. take i tail) r ∙ laid ∙ d;
-        count = counted n size
+        count = counted n size;
       }
 
 -- what is left to hash is the kept bytes and the padding

@@ -8,7 +8,7 @@ big-endian zero n = []
 big-endian (suc zero) n = n % 256 ∷ []
 big-endian (suc (suc w)) n = n / 256 ^ suc w % 256 ∷ big-endian (suc w) n
 
--- The 32-bit number whose four bytes, the highest first, begin at a place.
-abbrev pub word-at : List ℕ → ℕ → ℕ
-word-at bytes at =
-    getD bytes at 0 * 16777216 + getD bytes (at + 1) 0 * 65536 + getD bytes (at + 2) 0 * 256 + getD bytes (at + 3) 0
+-- The number whose w bytes, the highest first, begin at a place.
+abbrev pub number-at : ℕ → List ℕ → ℕ → ℕ
+number-at zero bytes at = 0
+number-at (suc w) bytes at = number-at w bytes at * 256 + getD bytes (at + w) 0

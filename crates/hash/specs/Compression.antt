@@ -2,14 +2,14 @@ use Prim.Native.Nat.{ℕ, zero, suc, _+_, _*_, _-_}
 use mathlib.Core.List.{List, [], _∷_, _++_}
 use lib.ListN.{getD}
 use Rattle.hash.specs.declared.block.Words.{Words}
-use Rattle.hash.specs.Bytes.{word-at}
+use Rattle.hash.specs.Bytes.{number-at}
 use Rattle.hash.specs.Constants.{constants}
 use Rattle.hash.specs.Words.{plus, ch, maj, big-sigma0, big-sigma1, small-sigma0, small-sigma1}
 
 -- The first n words of a block of 64 bytes.
 unfoldable pub words : List ℕ → ℕ → List ℕ
 words block zero = []
-words block (suc n) = words block n ++ word-at block (4 * n) ∷ []
+words block (suc n) = words block n ++ number-at 4 block (4 * n) ∷ []
 
 -- The word that follows i words of a schedule.
 unfoldable pub next-word : List ℕ → ℕ → ℕ

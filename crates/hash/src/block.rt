@@ -9,7 +9,70 @@ ghost use Rattle.hash.specs.Digest.{bytes-of as digest-bytes};
 ghost use Rattle.hash.specs.Words.{ch as chosen, maj as most, big-sigma0, big-sigma1, small-sigma0, small-sigma1};
 
 const K: [u32; 64] = [
-    0x428a2f98, 0x71374491, 0xb5c0fbcf, 0xe9b5dba5, 0x3956c25b, 0x59f111f1, 0x923f82a4, 0xab1c5ed5, 0xd807aa98, 0x12835b01, 0x243185be, 0x550c7dc3, 0x72be5d74, 0x80deb1fe, 0x9bdc06a7, 0xc19bf174, 0xe49b69c1, 0xefbe4786, 0x0fc19dc6, 0x240ca1cc, 0x2de92c6f, 0x4a7484aa, 0x5cb0a9dc, 0x76f988da, 0x983e5152, 0xa831c66d, 0xb00327c8, 0xbf597fc7, 0xc6e00bf3, 0xd5a79147, 0x06ca6351, 0x14292967, 0x27b70a85, 0x2e1b2138, 0x4d2c6dfc, 0x53380d13, 0x650a7354, 0x766a0abb, 0x81c2c92e, 0x92722c85, 0xa2bfe8a1, 0xa81a664b, 0xc24b8b70, 0xc76c51a3, 0xd192e819, 0xd6990624, 0xf40e3585, 0x106aa070, 0x19a4c116, 0x1e376c08, 0x2748774c, 0x34b0bcb5, 0x391c0cb3, 0x4ed8aa4a, 0x5b9cca4f, 0x682e6ff3, 0x748f82ee, 0x78a5636f, 0x84c87814, 0x8cc70208, 0x90befffa, 0xa4506ceb, 0xbef9a3f7, 0xc67178f2,
+    0x428a2f98,
+    0x71374491,
+    0xb5c0fbcf,
+    0xe9b5dba5,
+    0x3956c25b,
+    0x59f111f1,
+    0x923f82a4,
+    0xab1c5ed5,
+    0xd807aa98,
+    0x12835b01,
+    0x243185be,
+    0x550c7dc3,
+    0x72be5d74,
+    0x80deb1fe,
+    0x9bdc06a7,
+    0xc19bf174,
+    0xe49b69c1,
+    0xefbe4786,
+    0x0fc19dc6,
+    0x240ca1cc,
+    0x2de92c6f,
+    0x4a7484aa,
+    0x5cb0a9dc,
+    0x76f988da,
+    0x983e5152,
+    0xa831c66d,
+    0xb00327c8,
+    0xbf597fc7,
+    0xc6e00bf3,
+    0xd5a79147,
+    0x06ca6351,
+    0x14292967,
+    0x27b70a85,
+    0x2e1b2138,
+    0x4d2c6dfc,
+    0x53380d13,
+    0x650a7354,
+    0x766a0abb,
+    0x81c2c92e,
+    0x92722c85,
+    0xa2bfe8a1,
+    0xa81a664b,
+    0xc24b8b70,
+    0xc76c51a3,
+    0xd192e819,
+    0xd6990624,
+    0xf40e3585,
+    0x106aa070,
+    0x19a4c116,
+    0x1e376c08,
+    0x2748774c,
+    0x34b0bcb5,
+    0x391c0cb3,
+    0x4ed8aa4a,
+    0x5b9cca4f,
+    0x682e6ff3,
+    0x748f82ee,
+    0x78a5636f,
+    0x84c87814,
+    0x8cc70208,
+    0x90befffa,
+    0xa4506ceb,
+    0xbef9a3f7,
+    0xc67178f2,
 ];
 
 // Eight words: a hash value, or the working variables of the rounds.
@@ -66,9 +129,22 @@ impl Words {
     fn round(self, k: u32, w: u32) -> Words
         ensures { λ r. ⌜ r ≡ round self k w ⌝ }
     {
-        let t1 = self.h.wrapping_add(sum1(self.e)).wrapping_add(ch(self.e, self.f, self.g)).wrapping_add(k).wrapping_add(w);
+        let t1 = self.h
+            .wrapping_add(sum1(self.e))
+            .wrapping_add(ch(self.e, self.f, self.g))
+            .wrapping_add(k)
+            .wrapping_add(w);
         let t2 = sum0(self.a).wrapping_add(maj(self.a, self.b, self.c));
-        Words { a: t1.wrapping_add(t2), b: self.a, c: self.b, d: self.c, e: self.d.wrapping_add(t1), f: self.e, g: self.f, h: self.g }
+        Words {
+            a: t1.wrapping_add(t2),
+            b: self.a,
+            c: self.b,
+            d: self.c,
+            e: self.d.wrapping_add(t1),
+            f: self.e,
+            g: self.f,
+            h: self.g,
+        }
     }
 
     // Eight rounds, from the round i on. Written out, they move no word from one variable to the next.
@@ -120,7 +196,10 @@ fn extend(ws: &mut [u32; 64], from: usize)
     ensures { λ _. ⌜ ((first : List ℕ) → take from (now (ws .entry)) ≡ schedule first (from - 16) → take (from + 8) (now (ws .exit)) ≡ schedule first (from - 8)) ⌝ }
 {
     for i in from..from + 8 {
-        ws[i] = sigma1(ws[i - 2]).wrapping_add(ws[i - 7]).wrapping_add(sigma0(ws[i - 15])).wrapping_add(ws[i - 16]);
+        ws[i] = sigma1(ws[i - 2])
+            .wrapping_add(ws[i - 7])
+            .wrapping_add(sigma0(ws[i - 15]))
+            .wrapping_add(ws[i - 16]);
     }
 }
 
@@ -160,8 +239,38 @@ pub(crate) fn bytes_of(s: Words) -> [u8; 32]
     let g = s.g.to_be_bytes();
     let h = s.h.to_be_bytes();
     [
-        a[0], a[1], a[2], a[3], b[0], b[1], b[2], b[3], c[0], c[1], c[2], c[3], d[0], d[1], d[2], d[3], e[0], e[1], e[2], e[3], f[0], f[1],
-        f[2], f[3], g[0], g[1], g[2], g[3], h[0], h[1], h[2], h[3],
+        a[0],
+        a[1],
+        a[2],
+        a[3],
+        b[0],
+        b[1],
+        b[2],
+        b[3],
+        c[0],
+        c[1],
+        c[2],
+        c[3],
+        d[0],
+        d[1],
+        d[2],
+        d[3],
+        e[0],
+        e[1],
+        e[2],
+        e[3],
+        f[0],
+        f[1],
+        f[2],
+        f[3],
+        g[0],
+        g[1],
+        g[2],
+        g[3],
+        h[0],
+        h[1],
+        h[2],
+        h[3],
     ]
 }
 

@@ -1,5 +1,6 @@
 // SHA-256 and HMAC-SHA-256, each equal to its definition in specs/.
 ghost use Prim.Native.Nat.{_≤_};
+
 mod block;
 mod mac;
 mod sha;

@@ -6,11 +6,11 @@ ghost use lib.ListN.{length, replicate};
 ghost use Rattle.hash.specs.Compression.{compressed};
 ghost use Rattle.hash.specs.Constants.{initial};
 ghost use Rattle.hash.specs.Hmac.{filled, block-key, mixed, hmac, kept, tag-under, Tags-as-key};
+use crate::block::Words;
 use crate::block::compress;
 use crate::block::first_value;
-use crate::block::Words;
-use crate::sha::sha256;
 use crate::sha::Hasher;
+use crate::sha::sha256;
 
 // Writes bytes over the front of a block of zeros.
 fn put(out: &mut [u8], bytes: &[u8])
@@ -67,7 +67,10 @@ impl MacKey {
         ensures { λ r. ⌜ r ≡ kept (now (key .entry)) ⌝ }
     {
         let block = key_block(key);
-        MacKey { inner: after_mixed(&block, 0x36), outer: after_mixed(&block, 0x5c) }
+        MacKey {
+            inner: after_mixed(&block, 0x36),
+            outer: after_mixed(&block, 0x5c),
+        }
     }
 
     pub fn tag(&self, text: &[u8]) -> [u8; 32]

@@ -7,10 +7,10 @@ ghost use Rattle.hash.specs.declared.block.Words.{Words};
 ghost use Rattle.hash.specs.Constants.{initial};
 ghost use Rattle.hash.specs.Digest.{padding, after-all, sha256, resumed};
 ghost use Rattle.hash.specs.Taken.{Took};
+use crate::block::Words;
 use crate::block::bytes_of;
 use crate::block::compress;
 use crate::block::first_value;
-use crate::block::Words;
 
 // The hash value after the whole blocks of some bytes, read where they lie.
 fn absorb(start: Words, bytes: &[u8]) -> Words
@@ -64,14 +64,22 @@ impl Hasher {
     pub fn new() -> Hasher
         ensures { λ r. ⌜ Took initial 0 r [] ⌝ }
     {
-        Hasher { state: first_value(), tail: [0; 64], len: 0 }
+        Hasher {
+            state: first_value(),
+            tail: [0; 64],
+            len: 0,
+        }
     }
 
     // A hasher that goes on from the hash value of one block.
     pub(crate) fn after_block(state: Words) -> Hasher
         ensures { λ r. ⌜ Took state 64 r [] ⌝ }
     {
-        Hasher { state, tail: [0; 64], len: 64 }
+        Hasher {
+            state,
+            tail: [0; 64],
+            len: 64,
+        }
     }
 
     // Brings an unfinished block forward, and says how many of the bytes went into it.

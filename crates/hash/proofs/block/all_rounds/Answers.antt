@@ -24,10 +24,11 @@ loop-j-again c =
     let after : (8 * j + 16) - 8 ≡ 8 * (j + 1) = omega arith in
     let end : 16 + 8 * (j + 1) ≡ (8 * j + 16) + 8 = omega arith in
     let same : take (8 * j + 8) ws ≡ take (8 * j + 8) all = stands-so-far ws first (8 * j) (8 * j + 8) short (omega arith) (omega arith) (c .loop-j .inv .1) in
-    let stood : take (8 * j + 16) ws ≡ schedule first ((8 * j + 16) - 16) = ap (λ k. take k ws) at ∙ c .loop-j .inv .1 ∙ ap (schedule first) (sym before) in
-    (c .extend .array-long
-    , ap (λ k. take k (c .extend .last .ws)) end ∙ c .extend .ensures first stood ∙ ap (schedule first) after
-    , c .eight-rounds-s .ensures all (c .args .start) same (c .loop-j .inv .2) ∙ ap (rounds all (c .args .start)) n)
+    let stood : take (8 * j + 16) ws ≡ schedule first ((8 * j + 16) - 16) = ap (λ k. take k ws) at ∙ c .loop-j .inv .1 ∙ ap (schedule first) (sym before) in (
+      c .extend .array-long,
+      ap (λ k. take k (c .extend .last .ws)) end ∙ c .extend .ensures first stood ∙ ap (schedule first) after,
+      c .eight-rounds-s .ensures all (c .args .start) same (c .loop-j .inv .2) ∙ ap (rounds all (c .args .start)) n,
+    )
 
 pub returns : need.returns
 returns c =

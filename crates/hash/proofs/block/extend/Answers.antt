@@ -18,13 +18,14 @@ loop-i-again c =
     let ws = c .loop-i .ws in
     let v = next-word ws i in
     let far : (i + 1) - 16 ≡ (i - 16) + 1 = omega arith in
-    let back : 16 + (i - 16) ≡ i = omega arith in
-    (length-set ws i _ ∙ c .loop-i .inv .0
-    , λ first before.
-        let e : schedule first ((i + 1) - 16) ≡ take i ws ++ v ∷ [] =
-                ap (schedule first) far ∙ schedule-more first (i - 16) ∙ (rw (sym (c .loop-i .inv .1 first before), back, next-take ws i (omega arith)))
-        in
-        simp (c .sigma1 .ensures, c .sigma0 .ensures) (take-more-set ws i v (omega arith) ∙ sym e))
+    let back : 16 + (i - 16) ≡ i = omega arith in (
+      length-set ws i _ ∙ c .loop-i .inv .0,
+      λ first before.
+          let e : schedule first ((i + 1) - 16) ≡ take i ws ++ v ∷ [] =
+          ap (schedule first) far ∙ schedule-more first (i - 16) ∙ (rw (sym (c .loop-i .inv .1 first before), back, next-take ws i (omega arith)))
+          in
+          simp (c .sigma1 .ensures, c .sigma0 .ensures) (take-more-set ws i v (omega arith) ∙ sym e),
+    )
 
 pub returns : need.returns
 returns c first before =

@@ -4,7 +4,7 @@ use Prim.Native.Nat.{_+_, _*_}
 use native.Mathlib.Omega.{arith}
 use lib.ListN.{take}
 use Rattle.std.proofs.shelf.Lists.{take-more-set, length-set}
-use Rattle.hash.specs.Bytes.{word-at}
+use Rattle.hash.specs.Bytes.{number-at}
 use Rattle.hash.specs.Compression.{words}
 use Rattle.hash.proofs.Steps.{words-none, words-more}
 use Rattle.hash.proofs.block.load.Needs as need
@@ -17,7 +17,7 @@ loop-i-again c =
     let i = c .loop-i .i in
     let bs = c .args .block .now in
     let v = c .from-be-bytes .result in
-    let w : v ≡ word-at bs (4 * i) = cc in
+    let w : v ≡ number-at 4 bs (4 * i) = grind (arith, c .from-be-bytes .ensures) in
     let e : words bs (i + 1) ≡ take i (c .loop-i .ws) ++ v ∷ [] = words-more bs i ∙ rw (sym (c .loop-i .inv .1), sym w) in
     (length-set (c .loop-i .ws) i v ∙ c .loop-i .inv .0, take-more-set (c .loop-i .ws) i v (omega arith) ∙ sym e)
 

@@ -24,13 +24,13 @@ returns-then-n-room c =
       within = omega arith;
       even = λ lt. absurd (omega arith);
       takes =
-        λ s before m took.
-        let k = kept-size s before h m part tail took in
-        let long : length m % 64 + length part ≡ h .len % 64 + length last = omega (arith, ap length copied) in
-        let laid : take (length m % 64 + length part) tail ≡ take (length m % 64) (h .tail) ++ part =
-                take-putMid (h .len % 64) _ (h .tail) last _ long (omega arith) ∙ ap (λ l. take (h .len % 64) (h .tail) ++ l) copied ∙ ap (λ i. take i (h .tail) ++ part) k
-        in
-        took-some s before h m part tail took n (sym size) (omega arith) laid
+          λ s before m took.
+          let k = kept-size s before h m part tail took in
+          let long : length m % 64 + length part ≡ h .len % 64 + length last = omega (arith, ap length copied) in
+          let laid : take (length m % 64 + length part) tail ≡ take (length m % 64) (h .tail) ++ part =
+          take-putMid (h .len % 64) _ (h .tail) last _ long (omega arith) ∙ ap (λ l. take (h .len % 64) (h .tail) ++ l) copied ∙ ap (λ i. take i (h .tail) ++ part) k
+          in
+          took-some s before h m part tail took n (sym size) (omega arith) laid;
     }
 
 pub returns : need.returns
@@ -45,13 +45,13 @@ returns c =
     let size : length part ≡ 64 - have = length-take-le (64 - have) bs (omega arith) in
     let long : length tail ≤ 64 = search (needs, places) in
     let laid : tail ≡ take have (h .tail) ++ part =
-            sym (take-all 64 tail long) ∙ take-putMid have (64 - have) (h .tail) last 64 (omega (arith, ap length copied)) (omega arith) ∙ ap (λ l. take have (h .tail) ++ l) copied
+    sym (take-all 64 tail long) ∙ take-putMid have (64 - have) (h .tail) last 64 (omega (arith, ap length copied)) (omega arith) ∙ ap (λ l. take have (h .tail) ++ l) copied
     in
     record {
       within = omega arith;
       even = λ lt. omega arith;
       takes =
-        λ s before m took.
-        let k = kept-size s before h m part tail took in
-        took-block s before h m part tail took (64 - have) (sym size) (omega arith) (omega arith) (laid ∙ ap (λ i. take i (h .tail) ++ part) k) _ (c .compress-self .ensures)
+          λ s before m took.
+          let k = kept-size s before h m part tail took in
+          took-block s before h m part tail took (64 - have) (sym size) (omega arith) (omega arith) (laid ∙ ap (λ i. take i (h .tail) ++ part) k) _ (c .compress-self .ensures);
     }

@@ -19,5 +19,5 @@ returns c =
     let h = c .args .self in
     record {
       whole = λ m took. closed c ∙ ap bytes-of (took-all initial 0 h m took) ∙ ap (λ n. bytes-of (after-all initial (m ++ padding n))) (omega arith);
-      rest = λ s before m took. closed c ∙ ap bytes-of (took-all s before h m took)
+      rest = λ s before m took. closed c ∙ ap bytes-of (took-all s before h m took);
     }

@@ -19,7 +19,7 @@ returns c s before m took =
     let at : n - n % 64 ≡ 64 * (n / 64) = omega arith in
     let size : length (drop (64 * (n / 64)) bs) ≡ n % 64 = length-drop (64 * (n / 64)) bs ∙ omega arith in
     let copied : last ≡ drop (64 * (n / 64)) bs =
-            c .copy-from-slice .ensures .after ∙ ap (λ i. take (n - i) (drop i bs)) at ∙ take-all (n - 64 * (n / 64)) (drop (64 * (n / 64)) bs) (omega arith)
+    c .copy-from-slice .ensures .after ∙ ap (λ i. take (n - i) (drop i bs)) at ∙ take-all (n - 64 * (n / 64)) (drop (64 * (n / 64)) bs) (omega arith)
     in
     let laid : take (n % 64) tail ≡ drop (64 * (n / 64)) bs = take-putMid 0 _ (h .tail) last _ (omega (arith, ap length copied)) (omega arith) ∙ copied in
     took-rest s before h m bs tail took n refl (omega arith) laid _ (c .absorb-self .ensures)

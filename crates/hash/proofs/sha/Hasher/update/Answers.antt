@@ -13,7 +13,7 @@ returns-then-used-n c s before m took =
     let used = c .fill-used .result in
     let part = take (length bs - used) (drop used bs) in
     let whole : (m ++ take used bs) ++ part ≡ m ++ bs =
-            append-assoc m (take used bs) part ∙ ap (λ l. m ++ (take used bs ++ l)) (take-rest bs used) ∙ ap (λ l. m ++ l) (take-append-drop used bs)
+    append-assoc m (take used bs) part ∙ ap (λ l. m ++ (take used bs ++ l)) (take-rest bs used) ∙ ap (λ l. m ++ l) (take-append-drop used bs)
     in
     subst (λ (l : List ℕ). Took s before (c .take-blocks .last .self) l) whole (c .take-blocks .ensures s before (m ++ take used bs) (c .fill-used .ensures .takes s before m took))
 
