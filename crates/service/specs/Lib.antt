@@ -1,0 +1,4 @@
+pub mod Sets
+pub mod Seats
+pub mod Trails
+pub mod Laws

@@ -1,0 +1,117 @@
+// The seat book: which client holds a seat of which product.
+ghost use mathlib.Core.Path.{_≡_};
+ghost use mathlib.Core.List.{List};
+ghost use Prim.Native.Nat.{ℕ, _<_};
+ghost use lib.ListN.{getD};
+ghost use Rattle.std.specs.Options.{isSome, valueOr};
+ghost use Rattle.service.specs.declared.seats.Product.{Product};
+ghost use Rattle.service.specs.Sets.{has};
+ghost use Rattle.service.specs.Seats.{fresh-book, amount, well-formed, acted, seats-after, seats-answer, seats-digest, entry};
+use crate::service::Service;
+use hash::Hasher;
+
+// One product: how many seats were bought, and a bit for each client that holds one.
+#[derive(Clone, Copy)]
+pub struct Product {
+    bought: u8,
+    holders: u64,
+}
+
+impl Product {
+    // The product's entry in the digest.
+    fn entry(&self) -> [u8; 9]
+        ensures { λ r. ⌜ r ≡ entry (now (self .entry)) ⌝ }
+    {
+        let b = self.holders.to_be_bytes();
+        [self.bought, b[0], b[1], b[2], b[3], b[4], b[5], b[6], b[7]]
+    }
+
+    fn holds(&self, client: u16) -> bool
+        requires { ⌜ client < 64 ⌝ }
+        ensures { λ r. ⌜ r ≡ has (now (self .entry) .holders) client ⌝ }
+    {
+        (self.holders >> client) % 2 == 1
+    }
+
+    // Does an act of a client, and says whether it was done.
+    fn act(&mut self, client: u16, act: u8, n: u32) -> bool
+        requires { ⌜ client < 64 ⌝ }
+        ensures after { λ _. ⌜ now (self .exit) ≡ valueOr (acted (now (self .entry)) client act n) (now (self .entry)) ⌝ }
+        ensures done { λ r. ⌜ r ≡ isSome (acted (now (self .entry)) client act n) ⌝ }
+    {
+        let done = match act {
+            1 => n == 0 && !self.holds(client) && self.holders.count_ones() < u32::from(self.bought),
+            2 => n == 0 && self.holds(client),
+            3 => client == 0 && n <= 64,
+            _ => false,
+        };
+        if done {
+            match act {
+                1 => self.holders |= 1 << client,
+                2 => self.holders ^= 1 << client,
+                _ => self.bought = n as u8,
+            }
+        }
+        done
+    }
+}
+
+fn amount_of(command: &[u8; 10]) -> u32
+    ensures { λ r. ⌜ r ≡ amount (now (command .entry)) ⌝ }
+{
+    u32::from_be_bytes([command[2], command[3], command[4], command[5]])
+}
+
+fn formed(command: &[u8; 10]) -> bool
+    ensures { λ r. ⌜ r ≡ well-formed (now (command .entry)) ⌝ }
+{
+    command[1] < 16 && command[6] == 0 && command[7] == 0 && command[8] == 0 && command[9] == 0
+}
+
+fn digest_of(products: &[Product]) -> [u8; 32]
+    ensures { λ r. ⌜ r ≡ seats-digest (now (products .entry)) ⌝ }
+{
+    let mut h = Hasher::new();
+    for p in products {
+        h.update(&p.entry());
+    }
+    h.finish()
+}
+
+#[derive(Drop)]
+pub struct SeatBook {
+    products: [Product; 16],
+}
+
+impl SeatBook {
+    // An empty book.
+    pub fn new() -> SeatBook
+        ensures { λ r. ⌜ r .products ≡ fresh-book ⌝ }
+    {
+        SeatBook { products: [Product { bought: 0, holders: 0 }; 16] }
+    }
+}
+
+pub impl Service for SeatBook as SeatBookService {
+    ghost State = { List Product };
+
+    ghost state = { λ book. book .products };
+
+    ghost after = { λ products client command. seats-after products client command };
+
+    ghost answer = { λ products client command. seats-answer products client command };
+
+    ghost digest = { λ products. seats-digest products };
+
+    fn step(&mut self, client: u16, command: &[u8; 10]) -> u64 {
+        if client >= 64 || !formed(command) {
+            return 0;
+        }
+        let n = amount_of(command);
+        if self.products[command[1] as usize].act(client, command[0], n) { 1 } else { 0 }
+    }
+
+    fn digest(&self) -> [u8; 32] {
+        digest_of(&self.products)
+    }
+}
