@@ -23,9 +23,17 @@ fresh-book = replicate 16 no-product
 abbrev pub product-at : List Product → ℕ → Product
 product-at book i = getD book i no-product
 
+-- The product with a number; there is none above 15.
+abbrev pub found-product : List Product → ℕ → Option Product
+found-product book i = cond (ltb i 16) (Some (product-at book i)) None
+
 -- The seats of a product that are out are its holders.
 abbrev pub out : Product → ℕ
 out p = size (p .holders)
+
+-- A client holds a seat if it is among the holders. Clients are 0 to 63.
+abbrev pub holds : Product → ℕ → Bool
+holds p client = ltb client 64 && has (p .holders) client
 
 -- A command: byte 0 is the act, byte 1 the product, bytes 2 to 5 the amount.
 abbrev pub act : List ℕ → ℕ
@@ -45,12 +53,12 @@ well-formed command =
 -- Act 1 gives the client a seat, if it holds none and fewer seats are out than bought.
 abbrev pub given : Product → ℕ → ℕ → Option Product
 given p client n =
-    cond (eqb n 0 && (not (has (p .holders) client) && ltb (out p) (p .bought))) (Some (record { bought = p .bought; holders = with (p .holders) client })) None
+    cond (eqb n 0 && (not (holds p client) && ltb (out p) (p .bought))) (Some (record { bought = p .bought; holders = with (p .holders) client })) None
 
 -- Act 2 takes the client's seat back, if it holds one.
 abbrev pub returned : Product → ℕ → ℕ → Option Product
 returned p client n =
-    cond (eqb n 0 && has (p .holders) client) (Some (record { bought = p .bought; holders = without (p .holders) client })) None
+    cond (eqb n 0 && holds p client) (Some (record { bought = p .bought; holders = without (p .holders) client })) None
 
 -- Act 3, by client 0 alone, sets the bought number to an amount of at most 64.
 abbrev pub bought-to : Product → ℕ → ℕ → Option Product

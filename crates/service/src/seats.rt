@@ -5,15 +5,15 @@ ghost use Prim.Native.Nat.{ℕ, _<_};
 ghost use lib.ListN.{getD};
 ghost use Rattle.std.specs.Options.{isSome, valueOr};
 ghost use Rattle.service.specs.declared.seats.Product.{Product};
-ghost use Rattle.service.specs.Sets.{has};
-ghost use Rattle.service.specs.Seats.{fresh-book, amount, well-formed, acted, seats-after, seats-answer, seats-digest, entry};
+ghost use Rattle.service.specs.Laws.{Sets-stand, Never-oversold, Never-above-bought};
+ghost use Rattle.service.specs.Seats.{fresh-book, amount, well-formed, acted, seats-after, seats-answer, seats-digest, entry, out, holds, found-product};
 use crate::service::Service;
 use hash::Hasher;
 
 // One product: how many seats were bought, and a bit for each client that holds one.
 #[derive(Clone, Copy)]
 pub struct Product {
-    bought: u8,
+    pub bought: u8,
     holders: u64,
 }
 
@@ -26,11 +26,18 @@ impl Product {
         [self.bought, b[0], b[1], b[2], b[3], b[4], b[5], b[6], b[7]]
     }
 
-    fn holds(&self, client: u16) -> bool
-        requires { ⌜ client < 64 ⌝ }
-        ensures { λ r. ⌜ r ≡ has (now (self .entry) .holders) client ⌝ }
+    // How many seats are out.
+    pub fn out(&self) -> u32
+        ensures { λ r. ⌜ r ≡ out (now (self .entry)) ⌝ }
     {
-        (self.holders >> client) % 2 == 1
+        self.holders.count_ones()
+    }
+
+    // Whether a client holds a seat; clients above 63 never do.
+    pub fn holds(&self, client: u16) -> bool
+        ensures { λ r. ⌜ r ≡ holds (now (self .entry)) client ⌝ }
+    {
+        client < 64 && (self.holders >> client) % 2 == 1
     }
 
     // Does an act of a client, and says whether it was done.
@@ -40,7 +47,7 @@ impl Product {
         ensures done { λ r. ⌜ r ≡ isSome (acted (now (self .entry)) client act n) ⌝ }
     {
         let done = match act {
-            1 => n == 0 && !self.holds(client) && self.holders.count_ones() < u32::from(self.bought),
+            1 => n == 0 && !self.holds(client) && self.out() < u32::from(self.bought),
             2 => n == 0 && self.holds(client),
             3 => client == 0 && n <= 64,
             _ => false,
@@ -86,9 +93,19 @@ pub struct SeatBook {
 impl SeatBook {
     // An empty book.
     pub fn new() -> SeatBook
-        ensures { λ r. ⌜ r .products ≡ fresh-book ⌝ }
+        ensures fresh { λ r. ⌜ r .products ≡ fresh-book ⌝ }
+        ensures sets { λ _. ⌜ Sets-stand ⌝ }
+        ensures oversold { λ _. ⌜ Never-oversold ⌝ }
+        ensures above { λ _. ⌜ Never-above-bought ⌝ }
     {
         SeatBook { products: [Product { bought: 0, holders: 0 }; 16] }
+    }
+
+    // A product by its number; none above 15.
+    pub fn product(&self, i: u8) -> Option<Product>
+        ensures { λ r. ⌜ r ≡ found-product (now (self .entry) .products) i ⌝ }
+    {
+        if i < 16 { Some(self.products[i as usize]) } else { None }
     }
 }
 

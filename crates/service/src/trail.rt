@@ -42,6 +42,7 @@ pub impl Service for Trail as TrailService {
     }
 
     fn digest(&self) -> [u8; 32] {
-        self.bytes
+        let Trail { bytes } = self;
+        *bytes
     }
 }

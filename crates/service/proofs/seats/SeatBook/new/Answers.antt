@@ -1,0 +1,7 @@
+use mathlib.Core.Path.{refl}
+use Rattle.service.proofs.Members.{sets-stand}
+use Rattle.service.proofs.Sold.{never-oversold, never-above-bought}
+use Rattle.service.proofs.seats.SeatBook.new.Needs as need
+
+pub returns : need.returns
+returns c = record { fresh = refl; sets = sets-stand; oversold = never-oversold; above = never-above-bought }
