@@ -1,7 +1,8 @@
 -- What an entry asks of the service.
-use Prim.Native.Nat.{ℕ, _/_, _%_}
+use Prim.Native.Nat.{ℕ}
 use mathlib.Core.List.{List, [], _∷_, _++_}
 use lib.ListN.{replicate}
+use Rattle.hash.specs.Bytes.{big-endian}
 use Rattle.quarter.specs.declared.Entry.{Entry}
 use Rattle.quarter.specs.declared.Entry.the-variants.{Buy, Take, Return}
 
@@ -11,12 +12,8 @@ client-of (Buy p n) = 0
 client-of (Take c p) = c
 client-of (Return c p) = c
 
--- A number below 2^32 in four bytes, the highest first.
-abbrev pub four-bytes : ℕ → List ℕ
-four-bytes n = (n / 16777216 % 256) ∷ (n / 65536 % 256) ∷ (n / 256 % 256) ∷ (n % 256) ∷ []
-
 -- Ten bytes: the act (take 1, return 2, buy 3), the product, the amount in four bytes (0 where none is bought), four zeros.
 abbrev pub command-of : Entry → List ℕ
-command-of (Buy p n) = 3 ∷ p ∷ four-bytes n ++ replicate 4 0
-command-of (Take c p) = 1 ∷ p ∷ four-bytes 0 ++ replicate 4 0
-command-of (Return c p) = 2 ∷ p ∷ four-bytes 0 ++ replicate 4 0
+command-of (Buy p n) = 3 ∷ p ∷ big-endian 4 n ++ replicate 4 0
+command-of (Take c p) = 1 ∷ p ∷ big-endian 4 0 ++ replicate 4 0
+command-of (Return c p) = 2 ∷ p ∷ big-endian 4 0 ++ replicate 4 0

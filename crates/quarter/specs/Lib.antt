@@ -3,3 +3,4 @@ pub mod Lines
 pub mod Numbers
 pub mod Texts
 pub mod Words
+pub mod Quarters

@@ -9,8 +9,8 @@ use Rattle.quarter.specs.declared.Run.{Run}
 use Rattle.quarter.specs.declared.Run.the-variants.{Uncommented, Blank, Word}
 
 -- A comment starts at `#`.
-abbrev pub hash : ℕ → Bool
-hash b = eqb b 35
+abbrev pub comment-mark : ℕ → Bool
+comment-mark b = eqb b 35
 
 -- Blanks are the space, the tab and the carriage return.
 abbrev pub blank : ℕ → Bool
@@ -18,13 +18,13 @@ blank b = eqb b 32 || eqb b 9 || eqb b 13
 
 -- The bytes that each kind of run is made of.
 abbrev pub in-run : Run → ℕ → Bool
-in-run Uncommented b = not (hash b)
+in-run Uncommented b = not (comment-mark b)
 in-run Blank b = blank b
 in-run Word b = not (blank b)
 
 -- What stands before the first `#`: a comment goes to the end of the line.
 unfoldable pub uncommented : List ℕ → List ℕ
-uncommented line = take (leading (λ b. not (hash b)) line) line
+uncommented line = take (leading (λ b. not (comment-mark b)) line) line
 
 -- A text without the blanks at its front.
 abbrev pub unpadded : List ℕ → List ℕ

@@ -13,6 +13,10 @@ ghost use Rattle.quarter.specs.Lines.{act-of, entry-read, line-read};
 ghost use Rattle.quarter.specs.Numbers.{decimal, field-read};
 ghost use Rattle.quarter.specs.Texts.{fault-text, hex-digit, hex-text};
 ghost use Rattle.quarter.specs.Words.{after-word, first-word, in-run, uncommented};
+mod settle;
+
+pub use settle::Quarter;
+pub use settle::Unread;
 use std::fmt;
 
 /// One command of a quarter.

@@ -1,0 +1,39 @@
+use Prim.Native.Nat.{ℕ, _+_, _<_, _≤_}
+use mathlib.Core.Path.{_≡_, refl, sym, _∙_, ap}
+use mathlib.Core.Bool.{Bool, true, false, cond}
+use mathlib.Core.List.{List, [], _∷_, _++_}
+use lib.Dec.{eqb}
+use lib.ListN.{length, getD, drop}
+use Rattle.std.proofs.shelf.Edits.{between-none, between-more}
+use Rattle.std.proofs.shelf.Lists.{at-drop-more, at-drop-all}
+use Rattle.std.proofs.shelf.Tests.{eq-eqb, ne-eqb}
+use Rattle.std.specs.Holes.{between}
+use Rattle.std.specs.shelf.Lists.{folded}
+use Rattle.quarter.specs.Quarters.{lines-from}
+
+-- a fold over the lines of a text, at one byte of it
+module _ {S : Type 0} (f : S → List ℕ → S) (text : List ℕ) (i start : ℕ) where
+  abbrev pub left : S → ℕ → ℕ → S
+  left s from k = folded f s (lines-from (between from k text) (drop k text))
+
+  at-byte : (s : S) (b : Bool) → i < length text → eqb (getD text i 0) 10 ≡ b
+      → left s start i ≡ folded f s (cond b (between start i text ∷ lines-from [] (drop (i + 1) text)) (lines-from (between start i text ++ getD text i 0 ∷ []) (drop (i + 1) text)))
+  at-byte s b within test =
+      at-drop-more (λ r. folded f s (lines-from (between start i text) r)) text i 0 within
+      ∙ ap (λ b. folded f s (cond b (between start i text ∷ lines-from [] (drop (i + 1) text)) (lines-from (between start i text ++ getD text i 0 ∷ []) (drop (i + 1) text)))) test
+
+  -- a newline ends the line
+  pub line-ends : (s : S) → i < length text → getD text i 0 ≡ 10 → left s start i ≡ left (f s (between start i text)) (i + 1) (i + 1)
+  line-ends s within newline =
+      at-byte s true within (eq-eqb (getD text i 0) 10 newline)
+      ∙ ap (λ l. folded f (f s (between start i text)) (lines-from l (drop (i + 1) text))) (sym (between-none text (i + 1)))
+
+  -- any other byte joins it
+  pub line-grows : (s : S) → i < length text → start ≤ i → (getD text i 0 ≡ 10 → ⊥) → left s start i ≡ left s start (i + 1)
+  line-grows s within order other =
+      at-byte s false within (ne-eqb (getD text i 0) 10 other)
+      ∙ ap (λ l. folded f s (lines-from l (drop (i + 1) text))) (sym (between-more text start i 0 order within))
+
+  -- the last line ends with the text
+  pub text-ends : (s : S) → length text ≤ i → left s start i ≡ f s (between start i text)
+  text-ends s end = at-drop-all (λ r. folded f s (lines-from (between start i text) r)) text i end

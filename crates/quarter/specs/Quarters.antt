@@ -1,0 +1,65 @@
+-- How a quarter's text is settled.
+use Prim.Native.Nat.{ℕ, min, _+_}
+use mathlib.Core.Bool.{cond}
+use mathlib.Core.List.{List, [], _∷_, _++_}
+use lib.Dec.{eqb}
+use Rattle.std.specs.Of.Vec.{vec-items}
+use Rattle.std.specs.declared.option.Option.{Option}
+use Rattle.std.specs.declared.option.Option.the-variants.{Some, None}
+use Rattle.std.specs.declared.result.Result.{Result}
+use Rattle.std.specs.declared.result.Result.the-variants.{Ok, Err}
+use Rattle.std.specs.shelf.Lists.{folded}
+use Rattle.service.specs.declared.seats.Product.{Product}
+use Rattle.service.specs.Seats.{fresh-book, seats-after, seats-answer}
+use Rattle.service.specs.Trails.{fresh-trail, trail-after}
+use Rattle.quarter.specs.declared.Entry.{Entry}
+use Rattle.quarter.specs.declared.Fault.{Fault}
+use Rattle.quarter.specs.declared.settle.Quarter.{Quarter}
+use Rattle.quarter.specs.declared.settle.Unread.{Unread}
+use Rattle.quarter.specs.Commands.{client-of, command-of}
+use Rattle.quarter.specs.Lines.{line-read}
+
+-- Where a quarter stands: the seat book, the trail over all commands, how many lines were read, how many commands
+-- were granted and refused, and the lines that say nothing that can be run, each with its number and fault.
+pub record Standing : Type 0 where
+  pub book : List Product
+  pub trail : List ℕ
+  pub lines : ℕ
+  pub granted : ℕ
+  pub refused : ℕ
+  pub unread : List Unread
+
+abbrev pub standing : Quarter → Standing
+standing q =
+    record { book = q .book .products; trail = q .trail .bytes; lines = q .lines; granted = q .granted; refused = q .refused; unread = vec-items (q .unread) }
+
+abbrev pub fresh : Standing
+fresh = record { book = fresh-book; trail = fresh-trail; lines = 0; granted = 0; refused = 0; unread = [] }
+
+-- One more, held at the greatest 64-bit number.
+abbrev pub one-more : ℕ → ℕ
+one-more n = min (n + 1) 18446744073709551615
+
+-- A command is run on the book and noted in the trail. It was granted if the book answers 1.
+abbrev pub entered : Standing → Entry → Standing
+entered s e =
+    record { book = seats-after (s .book) (client-of e) (command-of e); trail = trail-after (s .trail) (client-of e) (command-of e); lines = one-more (s .lines); granted = cond (eqb (seats-answer (s .book) (client-of e) (command-of e)) 1) (one-more (s .granted)) (s .granted); refused = cond (eqb (seats-answer (s .book) (client-of e) (command-of e)) 1) (s .refused) (one-more (s .refused)); unread = s .unread }
+
+-- What was read of a line is run; a line with no word changes nothing; a fault is noted with the line's number, from 1.
+abbrev pub noted : Standing → Result (Option Entry) Fault → Standing
+noted s (Ok (Some e)) = entered s e
+noted s (Ok None) = record { book = s .book; trail = s .trail; lines = one-more (s .lines); granted = s .granted; refused = s .refused; unread = s .unread }
+noted s (Err f) =
+    record { book = s .book; trail = s .trail; lines = one-more (s .lines); granted = s .granted; refused = s .refused; unread = s .unread ++ record { line = one-more (s .lines); fault = f } ∷ [] }
+
+abbrev pub after-line : Standing → List ℕ → Standing
+after-line s line = noted s (line-read line)
+
+-- The lines of a text: each newline ends one, and the last ends with the text.
+abbrev pub lines-from : List ℕ → List ℕ → List (List ℕ)
+lines-from line [] = line ∷ []
+lines-from line (b ∷ bs) = cond (eqb b 10) (line ∷ lines-from [] bs) (lines-from (line ++ b ∷ []) bs)
+
+-- A text is settled line by line.
+abbrev pub settled : List ℕ → Standing
+settled text = folded after-line fresh (lines-from [] text)
