@@ -2,9 +2,10 @@ use Prim.Native.Nat.{ℕ, _+_, _<_, _≤_}
 use mathlib.Core.Path.{_≡_, refl, sym, _∙_, ap}
 use mathlib.Core.Bool.{Bool, true, false, cond}
 use mathlib.Core.List.{List, [], _∷_, _++_}
+use native.Mathlib.Omega.{arith}
 use lib.Dec.{eqb}
 use lib.ListN.{length, getD, drop}
-use Rattle.std.proofs.shelf.Edits.{between-none, between-more}
+use Rattle.std.proofs.shelf.Edits.{between-none, between-more, length-between}
 use Rattle.std.proofs.shelf.Lists.{at-drop-more, at-drop-all}
 use Rattle.std.proofs.shelf.Tests.{eq-eqb, ne-eqb}
 use Rattle.std.specs.Holes.{between}
@@ -35,5 +36,13 @@ module _ {S : Type 0} (f : S → List ℕ → S) (text : List ℕ) (i start : �
       ∙ ap (λ l. folded f s (lines-from l (drop (i + 1) text))) (sym (between-more text start i 0 order within))
 
   -- the last line ends with the text
-  pub text-ends : (s : S) → length text ≤ i → left s start i ≡ f s (between start i text)
-  text-ends s end = at-drop-all (λ r. folded f s (lines-from (between start i text) r)) text i end
+  pub text-ends : (s : S) → length text ≡ i → start < i → left s start i ≡ f s (between start i text)
+  text-ends s end some =
+      at-drop-all (λ r. folded f s (lines-from (between start i text) r)) text i (omega arith)
+      ∙ ap (λ (b : Bool). folded f s (cond b [] (between start i text ∷ []))) (ne-eqb (length (between start i text)) 0 (λ e. omega (arith, e, length-between text start i (omega arith))))
+
+  -- unless a newline ends it
+  pub text-ended : (s : S) → length text ≡ i → i ≤ start → left s start i ≡ s
+  text-ended s end none =
+      at-drop-all (λ r. folded f s (lines-from (between start i text) r)) text i (omega arith)
+      ∙ ap (λ (b : Bool). folded f s (cond b [] (between start i text ∷ []))) (eq-eqb (length (between start i text)) 0 (length-between text start i (omega arith) ∙ omega arith))

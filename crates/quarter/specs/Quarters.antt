@@ -3,6 +3,7 @@ use Prim.Native.Nat.{ℕ, min, _+_}
 use mathlib.Core.Bool.{cond}
 use mathlib.Core.List.{List, [], _∷_, _++_}
 use lib.Dec.{eqb}
+use lib.ListN.{length}
 use Rattle.std.specs.Of.Vec.{vec-items}
 use Rattle.std.specs.declared.option.Option.{Option}
 use Rattle.std.specs.declared.option.Option.the-variants.{Some, None}
@@ -55,9 +56,9 @@ noted s (Err f) =
 abbrev pub after-line : Standing → List ℕ → Standing
 after-line s line = noted s (line-read line)
 
--- The lines of a text: each newline ends one, and the last ends with the text.
+-- The lines of a text: each newline ends one, and what stands after the last newline is one too unless it is empty.
 abbrev pub lines-from : List ℕ → List ℕ → List (List ℕ)
-lines-from line [] = line ∷ []
+lines-from line [] = cond (eqb (length line) 0) [] (line ∷ [])
 lines-from line (b ∷ bs) = cond (eqb b 10) (line ∷ lines-from [] bs) (lines-from (line ++ b ∷ []) bs)
 
 -- A text is settled line by line.

@@ -13,6 +13,7 @@ ghost use Rattle.quarter.specs.Lines.{act-of, entry-read, line-read};
 ghost use Rattle.quarter.specs.Numbers.{decimal, field-read};
 ghost use Rattle.quarter.specs.Texts.{fault-text, hex-digit, hex-text};
 ghost use Rattle.quarter.specs.Words.{after-word, first-word, in-run, uncommented};
+
 mod settle;
 
 pub use settle::Quarter;

@@ -39,7 +39,14 @@ impl Quarter {
     pub fn new(heap: Global) -> Quarter
         ensures { λ r. ⌜ standing r ≡ fresh ⌝ }
     {
-        Quarter { book: SeatBook::new(), trail: Trail::new(), lines: 0, granted: 0, refused: 0, unread: Vec::new(heap) }
+        Quarter {
+            book: SeatBook::new(),
+            trail: Trail::new(),
+            lines: 0,
+            granted: 0,
+            refused: 0,
+            unread: Vec::new(heap),
+        }
     }
 
     fn enter(&mut self, entry: Entry)
@@ -65,7 +72,11 @@ impl Quarter {
             Ok(None) => self.lines = self.lines.saturating_add(1),
             Err(fault) => {
                 let number = self.lines.saturating_add(1);
-                self.unread.push(Unread { line: number, fault })?;
+                self.unread
+                    .push(Unread {
+                        line: number,
+                        fault,
+                    })?;
                 self.lines = number;
             }
         }
@@ -84,7 +95,9 @@ impl Quarter {
                 start = i + 1;
             }
         }
-        q.line(&text[start..text.len()])?;
+        if start < text.len() {
+            q.line(&text[start..text.len()])?;
+        }
         Ok(q)
     }
 }

@@ -23,16 +23,16 @@ by-bit P p q (suc (suc b)) h = absurd (omega arith)
 -- the bits of a power of two
 pow-bit : (c d : ℕ) → 2 ^ c / 2 ^ d % 2 ≡ cond (eqb c d) 1 0
 pow-bit c d =
-    elim (cases-order c d)
-    [ inl e ↦ ap (λ k. 2 ^ c / 2 ^ k % 2) (sym e) ∙ ap (λ n. n % 2) (div-self (pow-pos c)) ∙ ap (λ (b : Bool). cond b 1 0) (sym (eq-eqb c d e))
-    | inr o ↦ elim o
-      [ inl l ↦ ap (λ n. n % 2) (div-eq-of-lt (pow-below c d l)) ∙ ap (λ (b : Bool). cond b 1 0) (sym (ne-eqb c d (λ e. omega arith)))
-      | inr g ↦
-        let k = c - d - 1 in
-        let e : c ≡ suc k + d = omega arith in
-        let even : 2 ^ suc k % 2 ≡ 0 = omega (arith, pow-suc 2 k) in
-        ap (λ n. 2 ^ n / 2 ^ d % 2) e ∙ ap (λ n. n / 2 ^ d % 2) (pow-add 2 (suc k) d) ∙ ap (λ n. n % 2) (shl-shr (2 ^ suc k) d) ∙ even
-        ∙ ap (λ (b : Bool). cond b 1 0) (sym (ne-eqb c d (λ e. omega arith)))
+    elim (cases-order c d) [
+      | inl e ↦ ap (λ k. 2 ^ c / 2 ^ k % 2) (sym e) ∙ ap (λ n. n % 2) (div-self (pow-pos c)) ∙ ap (λ (b : Bool). cond b 1 0) (sym (eq-eqb c d e))
+      | inr o ↦ elim o [
+        | inl l ↦ ap (λ n. n % 2) (div-eq-of-lt (pow-below c d l)) ∙ ap (λ (b : Bool). cond b 1 0) (sym (ne-eqb c d (λ e. omega arith)))
+        | inr g ↦
+            let k = c - d - 1 in
+            let e : c ≡ suc k + d = omega arith in
+            let even : 2 ^ suc k % 2 ≡ 0 = omega (arith, pow-suc 2 k) in
+            ap (λ n. 2 ^ n / 2 ^ d % 2) e ∙ ap (λ n. n / 2 ^ d % 2) (pow-add 2 (suc k) d) ∙ ap (λ n. n % 2) (shl-shr (2 ^ suc k) d) ∙ even
+            ∙ ap (λ (b : Bool). cond b 1 0) (sym (ne-eqb c d (λ e. omega arith)))
       ]
     ]
 
@@ -86,7 +86,7 @@ ones-set : (a : ℕ) → a % 2 ≡ 0 → ones (bitOr a 1) ≡ ones a + 1
 ones-set a even =
     let n = bitOr a 1 in
     let is : n ≡ a / 2 * 2 + 1 =
-            or-step a 1 ∙ ap (λ h. h * 2 + max (a % 2) 1) (or-zero-r (a / 2)) ∙ ap (λ b. a / 2 * 2 + max b 1) even
+    or-step a 1 ∙ ap (λ h. h * 2 + max (a % 2) 1) (or-zero-r (a / 2)) ∙ ap (λ b. a / 2 * 2 + max b 1) even
     in
     let half : n / 2 ≡ a / 2 = omega arith in
     ones-step n ∙ omega (arith, ones-step a, ap ones half)
@@ -95,7 +95,7 @@ ones-cleared : (a : ℕ) → a % 2 ≡ 1 → ones (bitXor a 1) + 1 ≡ ones a
 ones-cleared a odd =
     let n = bitXor a 1 in
     let is : n ≡ a / 2 * 2 + 0 =
-            xor-step a 1 ∙ ap (λ h. h * 2 + differ (a % 2) 1) (xor-zero-r (a / 2)) ∙ ap (λ b. a / 2 * 2 + differ b 1) odd
+    xor-step a 1 ∙ ap (λ h. h * 2 + differ (a % 2) 1) (xor-zero-r (a / 2)) ∙ ap (λ b. a / 2 * 2 + differ b 1) odd
     in
     let half : n / 2 ≡ a / 2 = omega arith in
     omega (arith, ones-step n, ones-step a, ap ones half)

@@ -27,10 +27,10 @@ given-keeps : (p : Product) (client n a : ℕ) → ltb client 64 ≡ true → a 
 given-keeps p client n a small first =
     cond-both (eqb n 0 && (not (holds p client) && ltb (out p) (p .bought))) _ _ (Keeps p a)
     (λ e.
-        let room = and-parts (not (holds p client)) (ltb (out p) (p .bought)) (and-parts (eqb n 0) _ e .1) in
-        let free : has (p .holders) client ≡ false = ap (λ t. t && has (p .holders) client) (sym small) ∙ not-true (holds p client) (room .0) in
-        let more = size-with (p .holders) client free in
-        inr (more, omega (arith, more, ltb-true (out p) (p .bought) (room .1)), first, refl))
+    let room = and-parts (not (holds p client)) (ltb (out p) (p .bought)) (and-parts (eqb n 0) _ e .1) in
+    let free : has (p .holders) client ≡ false = ap (λ t. t && has (p .holders) client) (sym small) ∙ not-true (holds p client) (room .0) in
+    let more = size-with (p .holders) client free in
+    inr (more, omega (arith, more, ltb-true (out p) (p .bought) (room .1)), first, refl))
     (λ e. inl (omega arith))
 
 returned-keeps : (p : Product) (client n a : ℕ) → Keeps p a (returned p client n)
@@ -49,7 +49,7 @@ acted-keeps : (p : Product) (client a n : ℕ) → ltb client 64 ≡ true → Ke
 acted-keeps p client a n small =
     cond-both (eqb a 1) _ _ (Keeps p a) (λ e. given-keeps p client n a small (eqb-true a 1 e))
     (λ _. cond-both (eqb a 2) _ _ (Keeps p a) (λ _. returned-keeps p client n a)
-        (λ _. cond-both (eqb a 3) _ _ (Keeps p a) (λ _. bought-keeps p client n a) (λ _. none-keeps p a)))
+    (λ _. cond-both (eqb a 3) _ _ (Keeps p a) (λ _. bought-keeps p client n a) (λ _. none-keeps p a)))
 
 done-keeps : (book : List Product) (client : ℕ) (command : List ℕ) → Keeps (product-at book (product command)) (act command) (done book client command)
 done-keeps book client command =
@@ -68,25 +68,25 @@ sold book client command i =
     let o = done book client command in
     let q = valueOr o p in
     let other : product-at (seats-after book client command) i ≡ product-at book i → Sold book client command i = λ e. inl (omega (arith, ap out e)) in
-    elim (cases-eq k i)
-    [ inr ne ↦ other (getD-set-other book k i q no-product (λ e. ne (sym e)))
-    | inl same ↦ elim (cases-lt k (length book))
-      [ inr past ↦ other (ap (λ l. product-at l i) (set-past book k q past))
-      | inl within ↦
-        let new : product-at (seats-after book client command) i ≡ q = ap (product-at (seats-after book client command)) (sym same) ∙ getD-set-same book k q no-product within in
-        let old : product-at book i ≡ p = ap (product-at book) (sym same) in
-        elim (done-keeps book client command)
-        [ inl fewer ↦ inl (omega (arith, fewer, ap out new, ap out old))
-        | inr more ↦
-          inr
-          (record {
-            one = ap out new ∙ more .0 ∙ ap (λ x. out x + 1) (sym old);
-            within = subst (λ (x : Product). out x ≤ x .bought) (sym new) (more .1);
-            by-act = more .2;
-            of-product = same;
-            answered = ap (λ (b : Bool). cond b 1 0) (more .3)
-          })
-        ]
+    elim (cases-eq k i) [
+      | inr ne ↦ other (getD-set-other book k i q no-product (λ e. ne (sym e)))
+      | inl same ↦ elim (cases-lt k (length book)) [
+        | inr past ↦ other (ap (λ l. product-at l i) (set-past book k q past))
+        | inl within ↦
+            let new : product-at (seats-after book client command) i ≡ q = ap (product-at (seats-after book client command)) (sym same) ∙ getD-set-same book k q no-product within in
+            let old : product-at book i ≡ p = ap (product-at book) (sym same) in
+            elim (done-keeps book client command) [
+              | inl fewer ↦ inl (omega (arith, fewer, ap out new, ap out old))
+              | inr more ↦
+                  inr
+                  (record {
+                    one = ap out new ∙ more .0 ∙ ap (λ x. out x + 1) (sym old);
+                    within = subst (λ (x : Product). out x ≤ x .bought) (sym new) (more .1);
+                    by-act = more .2;
+                    of-product = same;
+                    answered = ap (λ (b : Bool). cond b 1 0) (more .3);
+                  })
+            ]
       ]
     ]
 
@@ -99,9 +99,9 @@ never-above : (book : List Product) (commands : List (ℕ × List ℕ)) (i m : �
 never-above book [] i m h = omega arith
 never-above book (r ∷ rs) i m h =
     let next = seats-after book (r .0) (r .1) in
-    elim (sold book (r .0) (r .1) i)
-    [ inl fewer ↦ omega (arith, never-above next rs i m (omega arith))
-    | inr gained ↦ omega (arith, never-above next rs i (bought-at next i) (gained .within), bought-first next rs i)
+    elim (sold book (r .0) (r .1) i) [
+      | inl fewer ↦ omega (arith, never-above next rs i m (omega arith))
+      | inr gained ↦ omega (arith, never-above next rs i (bought-at next i) (gained .within), bought-first next rs i)
     ]
   where
     bought-first : (book : List Product) (commands : List (ℕ × List ℕ)) (i : ℕ) → bought-at book i ≤ most-bought book commands i
@@ -111,10 +111,10 @@ never-above book (r ∷ rs) i m h =
 pub never-above-bought : Never-above-bought
 never-above-bought commands i =
     let none : out-at fresh-book i ≤ 0 =
-            elim (cases-lt i 16)
-            [ inl within ↦ ap-le (getD-replicate 16 i no-product no-product within)
-            | inr past ↦ ap-le (getD-past fresh-book i no-product past)
-            ]
+    elim (cases-lt i 16) [
+      | inl within ↦ ap-le (getD-replicate 16 i no-product no-product within)
+      | inr past ↦ ap-le (getD-past fresh-book i no-product past)
+    ]
     in
     omega (arith, never-above fresh-book commands i 0 none)
   where

@@ -16,12 +16,21 @@ mod tests {
     use std::test::*;
 
     const BUY_64: [u8; 10] = [3, 7, 0, 0, 0, 64, 0, 0, 0, 0];
+
     const BUY_65: [u8; 10] = [3, 7, 0, 0, 0, 65, 0, 0, 0, 0];
+
     const BUY_1: [u8; 10] = [3, 7, 0, 0, 0, 1, 0, 0, 0, 0];
+
     const TAKE: [u8; 10] = [1, 7, 0, 0, 0, 0, 0, 0, 0, 0];
+
     const RETURN: [u8; 10] = [2, 7, 0, 0, 0, 0, 0, 0, 0, 0];
 
-    fn answers(book: &mut SeatBook, client: u16, command: &[u8; 10], answer: u64) -> Result<(), Fail> {
+    fn answers(
+        book: &mut SeatBook,
+        client: u16,
+        command: &[u8; 10],
+        answer: u64,
+    ) -> Result<(), Fail> {
         check_eq(book.step(client, command), answer)
     }
 

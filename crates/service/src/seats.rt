@@ -98,14 +98,23 @@ impl SeatBook {
         ensures oversold { λ _. ⌜ Never-oversold ⌝ }
         ensures above { λ _. ⌜ Never-above-bought ⌝ }
     {
-        SeatBook { products: [Product { bought: 0, holders: 0 }; 16] }
+        SeatBook {
+            products: [Product {
+                bought: 0,
+                holders: 0,
+            }; 16],
+        }
     }
 
     // A product by its number; none above 15.
     pub fn product(&self, i: u8) -> Option<Product>
         ensures { λ r. ⌜ r ≡ found-product (now (self .entry) .products) i ⌝ }
     {
-        if i < 16 { Some(self.products[i as usize]) } else { None }
+        if i < 16 {
+            Some(self.products[i as usize])
+        } else {
+            None
+        }
     }
 }
 
@@ -125,7 +134,12 @@ pub impl Service for SeatBook as SeatBookService {
             return 0;
         }
         let n = amount_of(command);
-        if self.products[command[1] as usize].act(client, command[0], n) { 1 } else { 0 }
+        if self.products[command[1] as usize]
+            .act(client, command[0], n) {
+            1
+        } else {
+            0
+        }
     }
 
     fn digest(&self) -> [u8; 32] {

@@ -38,7 +38,16 @@ pub impl Service for Trail as TrailService {
         h.update(command);
         let next = h.finish();
         self.bytes = next;
-        u64::from_be_bytes([next[0], next[1], next[2], next[3], next[4], next[5], next[6], next[7]])
+        u64::from_be_bytes([
+            next[0],
+            next[1],
+            next[2],
+            next[3],
+            next[4],
+            next[5],
+            next[6],
+            next[7],
+        ])
     }
 
     fn digest(&self) -> [u8; 32] {

@@ -17,13 +17,13 @@ returns-then-client-ge64 c =
     let p = product-at book (product command) in
     let test = ltb (c .args .client) 64 && well-formed command in
     let no : test ≡ false =
-            elim (c .then-client-ge64 .came)
-            [ then-client-ge64·by·then-client-ge64 w ↦ and-left _ _ (le-ltb _ _ (w .if-client-ge64 .taken))
-            | then-client-ge64·by·else-client-ge64·then-not-formed w ↦ and-right _ _ (sym (w .formed .ensures) ∙ w .if-not-formed .taken)
-            ]
+    elim (c .then-client-ge64 .came) [
+      | then-client-ge64·by·then-client-ge64 w ↦ and-left _ _ (le-ltb _ _ (w .if-client-ge64 .taken))
+      | then-client-ge64·by·else-client-ge64·then-not-formed w ↦ and-right _ _ (sym (w .formed .ensures) ∙ w .if-not-formed .taken)
+    ]
     in
     record {
       value = ap (λ (b : Bool). cond (isSome (cond b (acted p (c .args .client) (act command) (amount command)) None)) 1 0) (sym no);
       next =
-        sym (ap (λ (b : Bool). set book (product command) (valueOr (cond b (acted p (c .args .client) (act command) (amount command)) None) p)) no ∙ set-getD book (product command) no-product)
+          sym (ap (λ (b : Bool). set book (product command) (valueOr (cond b (acted p (c .args .client) (act command) (amount command)) None) p)) no ∙ set-getD book (product command) no-product);
     }

@@ -18,6 +18,6 @@ returns c =
     let took2 = c .update-2 .ensures initial 0 bytes took1 in
     let took3 = c .update-3 .ensures initial 0 (bytes ++ client) took2 in
     let next : c .finish-next .result ≡ trail-after bytes (c .args .client) command =
-            c .finish-next .ensures .whole ((bytes ++ client) ++ command) took3 ∙ ap sha256 (append-assoc bytes client command) ∙ ap (λ l. sha256 (bytes ++ (l ++ command))) (c .to-be-bytes .ensures)
+    c .finish-next .ensures .whole ((bytes ++ client) ++ command) took3 ∙ ap sha256 (append-assoc bytes client command) ∙ ap (λ l. sha256 (bytes ++ (l ++ command))) (c .to-be-bytes .ensures)
     in
     record { value = grind (arith, c .from-be-bytes .ensures) ∙ ap (λ l. number-at 8 l 0) next; next = next }
