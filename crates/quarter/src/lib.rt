@@ -16,6 +16,7 @@ ghost use Rattle.quarter.specs.Words.{after-word, first-word, in-run, uncommen
 
 mod settle;
 
+use service::Command;
 pub use settle::Quarter;
 pub use settle::Unread;
 use std::fmt;
@@ -51,7 +52,7 @@ impl Entry {
     }
 
     /// The ten bytes that the service runs.
-    pub fn command(&self) -> [u8; 10]
+    pub fn command(&self) -> Command
         ensures { λ r. ⌜ r ≡ command-of (now (self .entry)) ⌝ }
     {
         match *self {

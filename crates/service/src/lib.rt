@@ -6,6 +6,7 @@ mod trail;
 pub use seats::Product;
 pub use seats::SeatBook;
 pub use seats::SeatBookService;
+pub use service::Command;
 pub use service::Service;
 pub use trail::Trail;
 pub use trail::TrailService;
@@ -15,20 +16,20 @@ mod tests {
     use super::*;
     use std::test::*;
 
-    const BUY_64: [u8; 10] = [3, 7, 0, 0, 0, 64, 0, 0, 0, 0];
+    const BUY_64: Command = [3, 7, 0, 0, 0, 64, 0, 0, 0, 0];
 
-    const BUY_65: [u8; 10] = [3, 7, 0, 0, 0, 65, 0, 0, 0, 0];
+    const BUY_65: Command = [3, 7, 0, 0, 0, 65, 0, 0, 0, 0];
 
-    const BUY_1: [u8; 10] = [3, 7, 0, 0, 0, 1, 0, 0, 0, 0];
+    const BUY_1: Command = [3, 7, 0, 0, 0, 1, 0, 0, 0, 0];
 
-    const TAKE: [u8; 10] = [1, 7, 0, 0, 0, 0, 0, 0, 0, 0];
+    const TAKE: Command = [1, 7, 0, 0, 0, 0, 0, 0, 0, 0];
 
-    const RETURN: [u8; 10] = [2, 7, 0, 0, 0, 0, 0, 0, 0, 0];
+    const RETURN: Command = [2, 7, 0, 0, 0, 0, 0, 0, 0, 0];
 
     fn answers(
         book: &mut SeatBook,
         client: u16,
-        command: &[u8; 10],
+        command: &Command,
         answer: u64,
     ) -> Result<(), Fail> {
         check_eq(book.step(client, command), answer)

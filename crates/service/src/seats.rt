@@ -7,6 +7,7 @@ ghost use Rattle.std.specs.Options.{isSome, valueOr};
 ghost use Rattle.service.specs.declared.seats.Product.{Product};
 ghost use Rattle.service.specs.Laws.{Sets-stand, Never-oversold, Never-above-bought};
 ghost use Rattle.service.specs.Seats.{fresh-book, amount, well-formed, acted, seats-after, seats-answer, seats-digest, entry, out, holds, found-product};
+use crate::service::Command;
 use crate::service::Service;
 use hash::Hasher;
 
@@ -63,13 +64,13 @@ impl Product {
     }
 }
 
-fn amount_of(command: &[u8; 10]) -> u32
+fn amount_of(command: &Command) -> u32
     ensures { λ r. ⌜ r ≡ amount (now (command .entry)) ⌝ }
 {
     u32::from_be_bytes([command[2], command[3], command[4], command[5]])
 }
 
-fn formed(command: &[u8; 10]) -> bool
+fn formed(command: &Command) -> bool
     ensures { λ r. ⌜ r ≡ well-formed (now (command .entry)) ⌝ }
 {
     command[1] < 16 && command[6] == 0 && command[7] == 0 && command[8] == 0 && command[9] == 0
@@ -129,7 +130,7 @@ pub impl Service for SeatBook as SeatBookService {
 
     ghost digest = { λ products. seats-digest products };
 
-    fn step(&mut self, client: u16, command: &[u8; 10]) -> u64 {
+    fn step(&mut self, client: u16, command: &Command) -> u64 {
         if client >= 64 || !formed(command) {
             return 0;
         }

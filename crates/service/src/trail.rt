@@ -3,6 +3,7 @@ ghost use mathlib.Core.Path.{_≡_};
 ghost use mathlib.Core.List.{List};
 ghost use Prim.Native.Nat.{ℕ};
 ghost use Rattle.service.specs.Trails.{fresh-trail, trail-after, trail-answer};
+use crate::service::Command;
 use crate::service::Service;
 use hash::Hasher;
 
@@ -31,7 +32,7 @@ pub impl Service for Trail as TrailService {
 
     ghost digest = { λ bytes. bytes };
 
-    fn step(&mut self, client: u16, command: &[u8; 10]) -> u64 {
+    fn step(&mut self, client: u16, command: &Command) -> u64 {
         let mut h = Hasher::new();
         h.update(&self.bytes);
         h.update(&client.to_be_bytes());
