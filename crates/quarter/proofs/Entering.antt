@@ -28,10 +28,4 @@ module _ (s : Standing) (e : Entry) (client : ℕ) (command : List ℕ) (asks : 
       → book ≡ seats-after (s .book) client command → trail ≡ trail-after (s .trail) client command → lines ≡ one-more (s .lines)
       → granted ≡ cond t (one-more (s .granted)) (s .granted) → refused ≡ cond t (s .refused) (one-more (s .refused))
       → record { book = book; trail = trail; lines = lines; granted = granted; refused = refused; unread = s .unread } ≡ entered s e
-  parts-entered t book trail lines granted refused test b r l g f =
-      ap (λ x. record { book = x; trail = trail; lines = lines; granted = granted; refused = refused; unread = s .unread }) b
-      ∙ ap (λ x. record { book = seats-after (s .book) client command; trail = x; lines = lines; granted = granted; refused = refused; unread = s .unread }) r
-      ∙ ap (λ x. record { book = seats-after (s .book) client command; trail = trail-after (s .trail) client command; lines = x; granted = granted; refused = refused; unread = s .unread }) l
-      ∙ ap (λ x. record { book = seats-after (s .book) client command; trail = trail-after (s .trail) client command; lines = one-more (s .lines); granted = x; refused = refused; unread = s .unread }) g
-      ∙ ap (λ x. record { book = seats-after (s .book) client command; trail = trail-after (s .trail) client command; lines = one-more (s .lines); granted = cond t (one-more (s .granted)) (s .granted); refused = x; unread = s .unread }) f
-      ∙ run-entered t test
+  parts-entered t book trail lines granted refused test b r l g f = let whole = run-entered t test in cc

@@ -16,7 +16,10 @@ ghost use Rattle.quarter.specs.Words.{after-word, first-word, in-run, uncommen
 
 mod settle;
 
+use service::BUY;
 use service::Command;
+use service::RETURN;
+use service::TAKE;
 pub use settle::Quarter;
 pub use settle::Unread;
 use std::fmt;
@@ -58,10 +61,10 @@ impl Entry {
         match *self {
             Entry::Buy { product, amount } => {
                 let [a, b, c, d] = amount.to_be_bytes();
-                [3, product, a, b, c, d, 0, 0, 0, 0]
+                [BUY, product, a, b, c, d, 0, 0, 0, 0]
             }
-            Entry::Take { product, .. } => [1, product, 0, 0, 0, 0, 0, 0, 0, 0],
-            Entry::Return { product, .. } => [2, product, 0, 0, 0, 0, 0, 0, 0, 0],
+            Entry::Take { product, .. } => [TAKE, product, 0, 0, 0, 0, 0, 0, 0, 0],
+            Entry::Return { product, .. } => [RETURN, product, 0, 0, 0, 0, 0, 0, 0, 0],
         }
     }
 }

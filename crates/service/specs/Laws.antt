@@ -6,7 +6,7 @@ use mathlib.Core.Logic.{_⊎_}
 use lib.Dec.{eqb}
 use Rattle.service.specs.declared.seats.Product.{Product}
 use Rattle.service.specs.Sets.{has, with, without, size}
-use Rattle.service.specs.Seats.{fresh-book, product-at, out, act, product, seats-after, seats-answer}
+use Rattle.service.specs.Seats.{fresh-book, product-at, out, take-act, act, product, seats-after, seats-answer}
 
 -- How many of the clients below n are in a set.
 abbrev pub members : ℕ → ℕ → ℕ
@@ -30,12 +30,12 @@ out-at book i = out (product-at book i)
 abbrev pub bought-at : List Product → ℕ → ℕ
 bought-at book i = product-at book i .bought
 
--- A command gave away one seat of product i: it is a done act 1 for that product, and then at most the
+-- A command gave away one seat of product i: it is a granted request for that product, and then at most the
 -- bought number is out.
 pub record Gained (book : List Product) (client : ℕ) (command : List ℕ) (i : ℕ) : Type 0 where
   pub one : out-at (seats-after book client command) i ≡ out-at book i + 1
   pub within : out-at (seats-after book client command) i ≤ bought-at (seats-after book client command) i
-  pub by-act : act command ≡ 1
+  pub by-act : act command ≡ take-act
   pub of-product : product command ≡ i
   pub answered : seats-answer book client command ≡ 1
 

@@ -35,6 +35,16 @@ out p = size (p .holders)
 abbrev pub holds : Product → ℕ → Bool
 holds p client = ltb client 64 && has (p .holders) client
 
+-- The acts: to take a seat, to return it, and to buy seats.
+abbrev pub take-act : ℕ
+take-act = 1
+
+abbrev pub return-act : ℕ
+return-act = 2
+
+abbrev pub buy-act : ℕ
+buy-act = 3
+
 -- A command: byte 0 is the act, byte 1 the product, bytes 2 to 5 the amount.
 abbrev pub act : List ℕ → ℕ
 act command = getD command 0 0
@@ -50,24 +60,24 @@ abbrev pub well-formed : List ℕ → Bool
 well-formed command =
     ltb (product command) 16 && (eqb (getD command 6 0) 0 && (eqb (getD command 7 0) 0 && (eqb (getD command 8 0) 0 && eqb (getD command 9 0) 0)))
 
--- Act 1 gives the client a seat, if it holds none and fewer seats are out than bought.
+-- To take gives the client a seat, if it holds none and fewer seats are out than bought.
 abbrev pub given : Product → ℕ → ℕ → Option Product
 given p client n =
     cond (eqb n 0 && (not (holds p client) && ltb (out p) (p .bought))) (Some (record { bought = p .bought; holders = with (p .holders) client })) None
 
--- Act 2 takes the client's seat back, if it holds one.
+-- To return takes the client's seat back, if it holds one.
 abbrev pub returned : Product → ℕ → ℕ → Option Product
 returned p client n =
     cond (eqb n 0 && holds p client) (Some (record { bought = p .bought; holders = without (p .holders) client })) None
 
--- Act 3, by client 0 alone, sets the bought number to an amount of at most 64.
+-- To buy, by client 0 alone, sets the bought number to an amount of at most 64.
 abbrev pub bought-to : Product → ℕ → ℕ → Option Product
 bought-to p client n = cond (eqb client 0 && leb n 64) (Some (record { bought = n; holders = p .holders })) None
 
 -- What an act makes of its product, or nothing where it is not done.
 abbrev pub acted : Product → ℕ → ℕ → ℕ → Option Product
 acted p client a n =
-    cond (eqb a 1) (given p client n) (cond (eqb a 2) (returned p client n) (cond (eqb a 3) (bought-to p client n) None))
+    cond (eqb a take-act) (given p client n) (cond (eqb a return-act) (returned p client n) (cond (eqb a buy-act) (bought-to p client n) None))
 
 -- What a command of a client makes of its product. Clients are 0 to 63.
 abbrev pub done : List Product → ℕ → List ℕ → Option Product

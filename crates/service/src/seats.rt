@@ -11,6 +11,13 @@ use crate::service::Command;
 use crate::service::Service;
 use hash::Hasher;
 
+// The acts of a command.
+pub const TAKE: u8 = 1;
+
+pub const RETURN: u8 = 2;
+
+pub const BUY: u8 = 3;
+
 // One product: how many seats were bought, and a bit for each client that holds one.
 #[derive(Clone, Copy)]
 pub struct Product {
@@ -48,15 +55,15 @@ impl Product {
         ensures done { λ r. ⌜ r ≡ isSome (acted (now (self .entry)) client act n) ⌝ }
     {
         let done = match act {
-            1 => n == 0 && !self.holds(client) && self.out() < u32::from(self.bought),
-            2 => n == 0 && self.holds(client),
-            3 => client == 0 && n <= 64,
+            TAKE => n == 0 && !self.holds(client) && self.out() < u32::from(self.bought),
+            RETURN => n == 0 && self.holds(client),
+            BUY => client == 0 && n <= 64,
             _ => false,
         };
         if done {
             match act {
-                1 => self.holders |= 1 << client,
-                2 => self.holders ^= 1 << client,
+                TAKE => self.holders |= 1 << client,
+                RETURN => self.holders ^= 1 << client,
                 _ => self.bought = n as u8,
             }
         }
