@@ -75,6 +75,9 @@ const K: [u32; 64] = [
     0xc67178f2,
 ];
 
+// The bytes of a hash or a tag.
+pub type HashBytes = [u8; 32];
+
 // Eight words: a hash value, or the working variables of the rounds.
 #[derive(Clone, Copy)]
 pub struct Words {
@@ -88,10 +91,11 @@ pub struct Words {
     h: u32,
 }
 
+// With one operation less than the standard writes it, and no complement.
 fn ch(x: u32, y: u32, z: u32) -> u32
     ensures { λ r. ⌜ r ≡ chosen x y z ⌝ }
 {
-    (x & y) ^ (!x & z)
+    z ^ (x & (y ^ z))
 }
 
 fn maj(x: u32, y: u32, z: u32) -> u32
@@ -227,7 +231,7 @@ pub(crate) fn compress(start: Words, block: &[u8]) -> Words
 }
 
 // The 32 bytes of a hash value.
-pub(crate) fn bytes_of(s: Words) -> [u8; 32]
+pub(crate) fn bytes_of(s: Words) -> HashBytes
     ensures { λ r. ⌜ r ≡ digest-bytes s ⌝ }
 {
     let a = s.a.to_be_bytes();

@@ -5,6 +5,7 @@ mod block;
 mod mac;
 mod sha;
 
+pub use block::HashBytes;
 pub use mac::MacKey;
 pub use mac::hmac;
 pub use sha::Hasher;

@@ -6,6 +6,7 @@ ghost use lib.ListN.{length, replicate};
 ghost use Rattle.hash.specs.Compression.{compressed};
 ghost use Rattle.hash.specs.Constants.{initial};
 ghost use Rattle.hash.specs.Hmac.{filled, block-key, mixed, hmac, kept, tag-under, Tags-as-key};
+use crate::block::HashBytes;
 use crate::block::Words;
 use crate::block::compress;
 use crate::block::first_value;
@@ -73,7 +74,7 @@ impl MacKey {
         }
     }
 
-    pub fn tag(&self, text: &[u8]) -> [u8; 32]
+    pub fn tag(&self, text: &[u8]) -> HashBytes
         ensures value { λ r. ⌜ r ≡ tag-under (now (self .entry)) (now (text .entry)) ⌝ }
         ensures law { λ _. ⌜ Tags-as-key ⌝ }
     {
@@ -87,7 +88,7 @@ impl MacKey {
 }
 
 // HMAC-SHA-256 under a key of any length.
-pub fn hmac(key: &[u8], text: &[u8]) -> [u8; 32]
+pub fn hmac(key: &[u8], text: &[u8]) -> HashBytes
     ensures { λ r. ⌜ r ≡ hmac (now (key .entry)) (now (text .entry)) ⌝ }
 {
     MacKey::new(key).tag(text)

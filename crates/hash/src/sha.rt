@@ -7,6 +7,7 @@ ghost use Rattle.hash.specs.declared.block.Words.{Words};
 ghost use Rattle.hash.specs.Constants.{initial};
 ghost use Rattle.hash.specs.Digest.{padding, after-all, sha256, resumed};
 ghost use Rattle.hash.specs.Taken.{Took};
+use crate::block::HashBytes;
 use crate::block::Words;
 use crate::block::bytes_of;
 use crate::block::compress;
@@ -129,7 +130,7 @@ impl Hasher {
     }
 
     // The hash of all that was taken.
-    pub fn finish(self) -> [u8; 32]
+    pub fn finish(self) -> HashBytes
         ensures whole { λ r. ⌜ ((m : List ℕ) → Took initial 0 self m → r ≡ sha256 m) ⌝ }
         ensures rest { λ r. ⌜ ((s : Words) (before : ℕ) (m : List ℕ) → Took s before self m → r ≡ resumed s before m) ⌝ }
     {
@@ -139,7 +140,7 @@ impl Hasher {
 }
 
 // SHA-256 of a message in one piece.
-pub fn sha256(message: &[u8]) -> [u8; 32]
+pub fn sha256(message: &[u8]) -> HashBytes
     ensures { λ r. ⌜ r ≡ sha256 (now (message .entry)) ⌝ }
 {
     let mut h = Hasher::new();

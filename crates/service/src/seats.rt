@@ -9,6 +9,7 @@ ghost use Rattle.service.specs.Laws.{Sets-stand, Never-oversold, Never-above-b
 ghost use Rattle.service.specs.Seats.{fresh-book, amount, well-formed, acted, seats-after, seats-answer, seats-digest, entry, out, holds, found-product};
 use crate::service::Command;
 use crate::service::Service;
+use hash::HashBytes;
 use hash::Hasher;
 
 // The acts of a command.
@@ -83,7 +84,7 @@ fn formed(command: &Command) -> bool
     command[1] < 16 && command[6] == 0 && command[7] == 0 && command[8] == 0 && command[9] == 0
 }
 
-fn digest_of(products: &[Product]) -> [u8; 32]
+fn digest_of(products: &[Product]) -> HashBytes
     ensures { λ r. ⌜ r ≡ seats-digest (now (products .entry)) ⌝ }
 {
     let mut h = Hasher::new();
@@ -150,7 +151,7 @@ pub impl Service for SeatBook as SeatBookService {
         }
     }
 
-    fn digest(&self) -> [u8; 32] {
+    fn digest(&self) -> HashBytes {
         digest_of(&self.products)
     }
 }

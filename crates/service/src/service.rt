@@ -1,6 +1,7 @@
 ghost use mathlib.Core.Path.{_≡_};
 ghost use mathlib.Core.List.{List};
 ghost use Prim.Native.Nat.{ℕ};
+use hash::HashBytes;
 
 // The ten bytes of a command.
 pub type Command = [u8; 10];
@@ -22,6 +23,6 @@ pub trait Service {
         ensures value { λ r. ⌜ r ≡ answer (state (now (self .entry))) client (now (command .entry)) ⌝ }
         ensures next { λ _. ⌜ state (now (self .exit)) ≡ after (state (now (self .entry))) client (now (command .entry)) ⌝ };
 
-    fn digest(&self) -> [u8; 32]
+    fn digest(&self) -> HashBytes
         ensures { λ r. ⌜ r ≡ digest (state (now (self .entry))) ⌝ };
 }

@@ -5,11 +5,12 @@ ghost use Prim.Native.Nat.{ℕ};
 ghost use Rattle.service.specs.Trails.{fresh-trail, trail-after, trail-answer};
 use crate::service::Command;
 use crate::service::Service;
+use hash::HashBytes;
 use hash::Hasher;
 
 #[derive(Drop)]
 pub struct Trail {
-    bytes: [u8; 32],
+    bytes: HashBytes,
 }
 
 impl Trail {
@@ -51,7 +52,7 @@ pub impl Service for Trail as TrailService {
         ])
     }
 
-    fn digest(&self) -> [u8; 32] {
+    fn digest(&self) -> HashBytes {
         let Trail { bytes } = self;
         *bytes
     }

@@ -1,4 +1,5 @@
 // Runs published examples of SHA-256 and HMAC-SHA-256, and says of each whether it comes out as published.
+use hash::HashBytes;
 use hash::Hasher;
 use hash::hmac;
 use hash::sha256;
@@ -86,7 +87,7 @@ impl Score {
 }
 
 // A million times the letter a, in parts.
-fn million() -> [u8; 32] {
+fn million() -> HashBytes {
     let part = [b'a'; 1000];
     let mut h = Hasher::new();
     for _ in 0..1000 {
