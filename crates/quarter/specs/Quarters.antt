@@ -1,5 +1,6 @@
 -- How a quarter's text is settled.
 use Prim.Native.Nat.{ℕ, min, _+_}
+use mathlib.Core.Path.{_≡_}
 use mathlib.Core.Bool.{cond}
 use mathlib.Core.List.{List, [], _∷_, _++_}
 use lib.Dec.{eqb}
@@ -11,6 +12,7 @@ use Rattle.std.specs.declared.result.Result.{Result}
 use Rattle.std.specs.declared.result.Result.the-variants.{Ok, Err}
 use Rattle.std.specs.shelf.Lists.{folded}
 use Rattle.service.specs.declared.seats.Product.{Product}
+use Rattle.service.specs.Laws.{book-after}
 use Rattle.service.specs.Seats.{fresh-book, seats-after, seats-answer}
 use Rattle.service.specs.Trails.{fresh-trail, trail-after}
 use Rattle.quarter.specs.declared.Entry.{Entry}
@@ -64,3 +66,17 @@ lines-from line (b ∷ bs) = cond (eqb b 10) (line ∷ lines-from [] bs) (lines-
 -- A text is settled line by line.
 abbrev pub settled : List ℕ → Standing
 settled text = folded after-line fresh (lines-from [] text)
+
+-- What was asked of the seat book in some lines, in their order: the client and command of each line that can be read.
+abbrev pub asked : Result (Option Entry) Fault → List (ℕ × List ℕ) → List (ℕ × List ℕ)
+asked (Ok (Some e)) rest = (client-of e, command-of e) ∷ rest
+asked (Ok None) rest = rest
+asked (Err f) rest = rest
+
+abbrev pub requests : List (List ℕ) → List (ℕ × List ℕ)
+requests [] = []
+requests (line ∷ lines) = asked (line-read line) (requests lines)
+
+-- Whatever the text, the settled book is the seat book after just those requests, and so within its laws.
+abbrev pub Book-of-requests : Type 0
+Book-of-requests = (text : List ℕ) → settled text .book ≡ book-after fresh-book (requests (lines-from [] text))

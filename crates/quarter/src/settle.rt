@@ -3,7 +3,7 @@ ghost use mathlib.Core.Path.{_≡_};
 ghost use mathlib.Core.Bool.{cond};
 ghost use Rattle.std.specs.Results.{isOk};
 ghost use Rattle.std.specs.Vec.{made};
-ghost use Rattle.quarter.specs.Quarters.{standing, fresh, entered, noted, after-line, settled};
+ghost use Rattle.quarter.specs.Quarters.{standing, fresh, entered, after-line, settled, Book-of-requests};
 use crate::Entry;
 use crate::Fault;
 use crate::FaultDebug;
@@ -37,7 +37,8 @@ pub struct Quarter {
 
 impl Quarter {
     pub fn new(heap: Global) -> Quarter
-        ensures { λ r. ⌜ standing r ≡ fresh ⌝ }
+        ensures stands { λ r. ⌜ standing r ≡ fresh ⌝ }
+        ensures law { λ _. ⌜ Book-of-requests ⌝ }
     {
         Quarter {
             book: SeatBook::new(),

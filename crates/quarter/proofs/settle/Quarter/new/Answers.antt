@@ -1,0 +1,6 @@
+use borrow.Author.Needs.{needs}
+use Rattle.quarter.proofs.Requests.{book-of-requests}
+use Rattle.quarter.proofs.settle.Quarter.new.Needs as need
+
+pub returns : need.returns
+returns c = record { stands = search needs; law = book-of-requests }
