@@ -194,7 +194,7 @@ fn load(block: &[u8], ws: &mut [u32; 64])
     }
 }
 
-// Eight words more of a schedule that stands as far as i.
+// Eight words more of a schedule that stands so far.
 fn extend(ws: &mut [u32; 64], from: usize)
     requires { ⌜ 16 ≤ from ⌝ ∗ ⌜ from + 8 ≤ 64 ⌝ }
     ensures { λ _. ⌜ ((first : List ℕ) → take from (now (ws .entry)) ≡ schedule first (from - 16) → take (from + 8) (now (ws .exit)) ≡ schedule first (from - 8)) ⌝ }

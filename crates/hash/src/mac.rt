@@ -76,7 +76,7 @@ impl MacKey {
 
     pub fn tag(&self, text: &[u8]) -> HashBytes
         ensures value { λ r. ⌜ r ≡ tag-under (now (self .entry)) (now (text .entry)) ⌝ }
-        ensures law { λ _. ⌜ Tags-as-key ⌝ }
+        ensures tags_as_key { λ _. ⌜ Tags-as-key ⌝ }
     {
         let mut inner = Hasher::after_block(self.inner);
         inner.update(text);

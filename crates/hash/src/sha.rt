@@ -6,7 +6,7 @@ ghost use lib.ListN.{length, take, drop, replicate};
 ghost use Rattle.hash.specs.declared.block.Words.{Words};
 ghost use Rattle.hash.specs.Constants.{initial};
 ghost use Rattle.hash.specs.Digest.{padding, after-all, sha256, resumed};
-ghost use Rattle.hash.specs.Taken.{Took};
+ghost use Rattle.hash.specs.Taken.{Took, Goes-on};
 use crate::block::HashBytes;
 use crate::block::Words;
 use crate::block::bytes_of;
@@ -87,7 +87,7 @@ impl Hasher {
     fn fill(&mut self, bytes: &[u8]) -> usize
         ensures within { λ r. ⌜ r ≤ length (now (bytes .entry)) ⌝ }
         ensures even { λ r. ⌜ (r < length (now (bytes .entry)) → now (self .exit) .len % 64 ≡ 0) ⌝ }
-        ensures takes { λ r. ⌜ ((s : Words) (before : ℕ) (m : List ℕ) → Took s before (now (self .entry)) m → Took s before (now (self .exit)) (m ++ take r (now (bytes .entry)))) ⌝ }
+        ensures takes { λ r. ⌜ Goes-on (now (self .entry)) (take r (now (bytes .entry))) (now (self .exit)) ⌝ }
     {
         let have = (self.len % 64) as usize;
         if have == 0 {
@@ -109,7 +109,7 @@ impl Hasher {
     // Takes bytes at the start of a block.
     fn take_blocks(&mut self, bytes: &[u8])
         requires { ⌜ now self .len % 64 ≡ 0 ⌝ }
-        ensures { λ _. ⌜ ((s : Words) (before : ℕ) (m : List ℕ) → Took s before (now (self .entry)) m → Took s before (now (self .exit)) (m ++ now (bytes .entry))) ⌝ }
+        ensures { λ _. ⌜ Goes-on (now (self .entry)) (now (bytes .entry)) (now (self .exit)) ⌝ }
     {
         let n = bytes.len();
         let left = n % 64;
@@ -120,7 +120,7 @@ impl Hasher {
 
     // Takes the next part of the message.
     pub fn update(&mut self, bytes: &[u8])
-        ensures { λ _. ⌜ ((s : Words) (before : ℕ) (m : List ℕ) → Took s before (now (self .entry)) m → Took s before (now (self .exit)) (m ++ now (bytes .entry))) ⌝ }
+        ensures { λ _. ⌜ Goes-on (now (self .entry)) (now (bytes .entry)) (now (self .exit)) ⌝ }
     {
         let n = bytes.len();
         let used = self.fill(bytes);

@@ -38,7 +38,7 @@ pub struct Quarter {
 impl Quarter {
     pub fn new(heap: Global) -> Quarter
         ensures stands { λ r. ⌜ standing r ≡ fresh ⌝ }
-        ensures law { λ _. ⌜ Book-of-requests ⌝ }
+        ensures book_of_requests { λ _. ⌜ Book-of-requests ⌝ }
     {
         Quarter {
             book: SeatBook::new(),

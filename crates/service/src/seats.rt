@@ -103,9 +103,9 @@ impl SeatBook {
     // An empty book.
     pub fn new() -> SeatBook
         ensures fresh { λ r. ⌜ r .products ≡ fresh-book ⌝ }
-        ensures sets { λ _. ⌜ Sets-stand ⌝ }
-        ensures oversold { λ _. ⌜ Never-oversold ⌝ }
-        ensures above { λ _. ⌜ Never-above-bought ⌝ }
+        ensures sets_stand { λ _. ⌜ Sets-stand ⌝ }
+        ensures never_oversold { λ _. ⌜ Never-oversold ⌝ }
+        ensures never_above_bought { λ _. ⌜ Never-above-bought ⌝ }
     {
         SeatBook {
             products: [Product {

@@ -12,5 +12,5 @@ returns c =
     let inner = c .finish-digest .ensures .rest (k .inner) 64 _ (c .update .ensures _ 64 [] (c .after-block-inner .ensures)) in
     record {
       value = c .finish .ensures .rest (k .outer) 64 _ (c .update-2 .ensures _ 64 [] (c .after-block-outer .ensures)) ∙ ap (resumed (k .outer) 64) inner;
-      law = tags-as-key;
+      tags-as-key = tags-as-key;
     }

@@ -3,4 +3,4 @@ use Rattle.quarter.proofs.Requests.{book-of-requests}
 use Rattle.quarter.proofs.settle.Quarter.new.Needs as need
 
 pub returns : need.returns
-returns c = record { stands = search needs; law = book-of-requests }
+returns c = record { stands = search needs; book-of-requests = book-of-requests }

@@ -4,4 +4,4 @@ use Rattle.service.proofs.Sold.{never-oversold, never-above-bought}
 use Rattle.service.proofs.seats.SeatBook.new.Needs as need
 
 pub returns : need.returns
-returns c = record { fresh = refl; sets = sets-stand; oversold = never-oversold; above = never-above-bought }
+returns c = record { fresh = refl; sets-stand = sets-stand; never-oversold = never-oversold; never-above-bought = never-above-bought }
