@@ -30,7 +30,16 @@ temporary2 s = plus (big-sigma0 (s .a)) (maj (s .a) (s .b) (s .c))
 -- One round, with its constant and its word of the schedule.
 unfoldable pub round : Words → ℕ → ℕ → Words
 round s k w =
-    record { a = plus (temporary1 s k w) (temporary2 s); b = s .a; c = s .b; d = s .c; e = plus (s .d) (temporary1 s k w); f = s .e; g = s .f; h = s .g }
+    record {
+      a = plus (temporary1 s k w) (temporary2 s);
+      b = s .a;
+      c = s .b;
+      d = s .c;
+      e = plus (s .d) (temporary1 s k w);
+      f = s .e;
+      g = s .f;
+      h = s .g;
+    }
 
 -- The working variables after the first n rounds.
 unfoldable pub rounds : List ℕ → Words → ℕ → Words
@@ -40,7 +49,16 @@ rounds ws s (suc n) = round (rounds ws s n) (getD constants n 0) (getD ws n 0)
 -- Word by word addition.
 abbrev pub added : Words → Words → Words
 added s t =
-    record { a = plus (s .a) (t .a); b = plus (s .b) (t .b); c = plus (s .c) (t .c); d = plus (s .d) (t .d); e = plus (s .e) (t .e); f = plus (s .f) (t .f); g = plus (s .g) (t .g); h = plus (s .h) (t .h) }
+    record {
+      a = plus (s .a) (t .a);
+      b = plus (s .b) (t .b);
+      c = plus (s .c) (t .c);
+      d = plus (s .d) (t .d);
+      e = plus (s .e) (t .e);
+      f = plus (s .f) (t .f);
+      g = plus (s .g) (t .g);
+      h = plus (s .h) (t .h);
+    }
 
 -- The hash value after one more block: 64 rounds over its schedule, added to the value before.
 unfoldable pub compressed : Words → List ℕ → Words

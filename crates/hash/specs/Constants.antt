@@ -25,4 +25,13 @@ constants = map (fraction 3) primes
 -- The first hash value: from the square roots of the first eight primes.
 unfoldable pub initial : Words
 initial =
-    record { a = fraction 2 2; b = fraction 2 3; c = fraction 2 5; d = fraction 2 7; e = fraction 2 11; f = fraction 2 13; g = fraction 2 17; h = fraction 2 19 }
+    record {
+      a = fraction 2 2;
+      b = fraction 2 3;
+      c = fraction 2 5;
+      d = fraction 2 7;
+      e = fraction 2 11;
+      f = fraction 2 13;
+      g = fraction 2 17;
+      h = fraction 2 19;
+    }

@@ -29,7 +29,10 @@ hmac key text = sha256 (mixed (block-key key) 0x5c ++ sha256 (mixed (block-key k
 -- What is kept of a key: the hash values after its two mixed blocks.
 unfoldable pub kept : List ℕ → MacKey
 kept key =
-    record { inner = compressed initial (mixed (block-key key) 0x36); outer = compressed initial (mixed (block-key key) 0x5c) }
+    record {
+      inner = compressed initial (mixed (block-key key) 0x36);
+      outer = compressed initial (mixed (block-key key) 0x5c);
+    }
 
 -- The tag under a kept key: both hashes go on from the kept values, after one block.
 unfoldable pub tag-under : MacKey → List ℕ → List ℕ

@@ -14,7 +14,14 @@ use Rattle.quarter.specs.Quarters.{Standing, one-more, entered}
 -- what a client and a command make of a standing, for each test of the book's answer
 abbrev run : Standing → ℕ → List ℕ → Bool → Standing
 run s client command t =
-    record { book = seats-after (s .book) client command; trail = trail-after (s .trail) client command; lines = one-more (s .lines); granted = cond t (one-more (s .granted)) (s .granted); refused = cond t (s .refused) (one-more (s .refused)); unread = s .unread }
+    record {
+      book = seats-after (s .book) client command;
+      trail = trail-after (s .trail) client command;
+      lines = one-more (s .lines);
+      granted = cond t (one-more (s .granted)) (s .granted);
+      refused = cond t (s .refused) (one-more (s .refused));
+      unread = s .unread;
+    }
 
 module _ (s : Standing) (e : Entry) (client : ℕ) (command : List ℕ) (asks : client ≡ client-of e) (says : command ≡ command-of e) where
   -- a run by the entry's client and command, whose answer passed the test t, is the entry's

@@ -1,7 +1,7 @@
 -- How a quarter's text is settled.
 use Prim.Native.Nat.{ℕ, min, _+_}
 use mathlib.Core.Path.{_≡_}
-use mathlib.Core.Bool.{cond}
+use mathlib.Core.Bool.{Bool, cond}
 use mathlib.Core.List.{List, [], _∷_, _++_}
 use lib.Dec.{eqb}
 use lib.ListN.{length}
@@ -34,7 +34,14 @@ pub record Standing : Type 0 where
 
 abbrev pub standing : Quarter → Standing
 standing q =
-    record { book = q .book .products; trail = q .trail .bytes; lines = q .lines; granted = q .granted; refused = q .refused; unread = vec-items (q .unread) }
+    record {
+      book = q .book .products;
+      trail = q .trail .bytes;
+      lines = q .lines;
+      granted = q .granted;
+      refused = q .refused;
+      unread = vec-items (q .unread);
+    }
 
 abbrev pub fresh : Standing
 fresh = record { book = fresh-book; trail = fresh-trail; lines = 0; granted = 0; refused = 0; unread = [] }
@@ -43,17 +50,39 @@ fresh = record { book = fresh-book; trail = fresh-trail; lines = 0; granted = 0;
 abbrev pub one-more : ℕ → ℕ
 one-more n = min (n + 1) 18446744073709551615
 
--- A command is run on the book and noted in the trail. It was granted if the book answers 1.
+-- The seat book grants an entry if it answers 1.
+abbrev pub grants : List Product → Entry → Bool
+grants book e = eqb (seats-answer book (client-of e) (command-of e)) 1
+
+-- An entry is run on the book and goes into the trail, granted or refused.
 abbrev pub entered : Standing → Entry → Standing
 entered s e =
-    record { book = seats-after (s .book) (client-of e) (command-of e); trail = trail-after (s .trail) (client-of e) (command-of e); lines = one-more (s .lines); granted = cond (eqb (seats-answer (s .book) (client-of e) (command-of e)) 1) (one-more (s .granted)) (s .granted); refused = cond (eqb (seats-answer (s .book) (client-of e) (command-of e)) 1) (s .refused) (one-more (s .refused)); unread = s .unread }
+    record {
+      book = seats-after (s .book) (client-of e) (command-of e);
+      trail = trail-after (s .trail) (client-of e) (command-of e);
+      lines = one-more (s .lines);
+      granted = cond (grants (s .book) e) (one-more (s .granted)) (s .granted);
+      refused = cond (grants (s .book) e) (s .refused) (one-more (s .refused));
+      unread = s .unread;
+    }
 
--- What was read of a line is run; a line with no word changes nothing; a fault is noted with the line's number, from 1.
+-- A line that is no entry is counted, and its fault, if it has one, is noted with the line's number.
+abbrev pub passed : Standing → List Unread → Standing
+passed s more =
+    record {
+      book = s .book;
+      trail = s .trail;
+      lines = one-more (s .lines);
+      granted = s .granted;
+      refused = s .refused;
+      unread = s .unread ++ more;
+    }
+
+-- What was read of a line: an entry, nothing, or a fault. Lines are numbered from 1.
 abbrev pub noted : Standing → Result (Option Entry) Fault → Standing
 noted s (Ok (Some e)) = entered s e
-noted s (Ok None) = record { book = s .book; trail = s .trail; lines = one-more (s .lines); granted = s .granted; refused = s .refused; unread = s .unread }
-noted s (Err f) =
-    record { book = s .book; trail = s .trail; lines = one-more (s .lines); granted = s .granted; refused = s .refused; unread = s .unread ++ record { line = one-more (s .lines); fault = f } ∷ [] }
+noted s (Ok None) = passed s []
+noted s (Err f) = passed s (record { line = one-more (s .lines); fault = f } ∷ [])
 
 abbrev pub after-line : Standing → List ℕ → Standing
 after-line s line = noted s (line-read line)

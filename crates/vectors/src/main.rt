@@ -45,7 +45,7 @@ struct Score {
 }
 
 impl Score {
-    // Prints an example's line: its name, what came out, and whether the published text begins it.
+    // Prints an example's line: whether it came out as published, its name, and what came out.
     fn note(
         &mut self,
         rt: &LibcRuntime,
