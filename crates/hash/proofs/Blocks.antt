@@ -10,16 +10,13 @@ use Rattle.hash.specs.Compression.{compressed}
 use Rattle.hash.specs.Digest.{block, after-blocks}
 
 pub after-none : (s : Words) (bs : List ℕ) → after-blocks s bs 0 ≡ s
-unfolding after-blocks
 after-none s bs = refl
 
 pub after-more : (s : Words) (bs : List ℕ) (n : ℕ) → after-blocks s bs (n + 1) ≡ compressed (after-blocks s bs n) (block bs n)
-unfolding after-blocks
 after-more s bs n = rw add-one
 
 -- blocks that lie in the front of a list are that front's
 pub after-front : (s : Words) (xs ys : List ℕ) (n : ℕ) → 64 * n ≤ length xs → after-blocks s (xs ++ ys) n ≡ after-blocks s xs n
-unfolding after-blocks
 after-front s xs ys zero h = refl
 after-front s xs ys (suc n) h =
     let a : 64 * n ≤ length xs = omega arith in
@@ -29,7 +26,6 @@ after-front s xs ys (suc n) h =
 
 -- blocks after whole blocks go on from their hash value
 pub after-rest : (s : Words) (xs ys : List ℕ) (m n : ℕ) → length xs ≡ 64 * m → after-blocks s (xs ++ ys) (m + n) ≡ after-blocks (after-blocks s xs m) ys n
-unfolding after-blocks
 after-rest s xs ys m zero h = ap (after-blocks s (xs ++ ys)) (omega arith) ∙ after-front s xs ys m (omega arith)
 after-rest s xs ys m (suc n) h =
     let at : 64 * (m + n) ≡ length xs + 64 * n = omega arith in

@@ -46,7 +46,7 @@ length-mixed key b =
     (cond-both (leb (length key) 64) key (sha256 key) (λ k. length k ≤ 64) (λ e. leb-true (length key) 64 e) (λ e. length-sha256 key))
 
 pub tags-as-key : Tags-as-key
-unfolding tag-under kept hmac
+unfolding hmac
 tags-as-key key text =
     resumed-block (mixed (block-key key) 0x5c) _ (length-mixed key 0x5c)
     ∙ ap (λ d. sha256 (mixed (block-key key) 0x5c ++ d)) (resumed-block (mixed (block-key key) 0x36) text (length-mixed key 0x36))

@@ -17,7 +17,7 @@ abbrev pub block : List ℕ → ℕ → List ℕ
 block bytes k = take 64 (drop (64 * k) bytes)
 
 -- The hash value after n blocks, from the hash value before them.
-unfoldable pub after-blocks : Words → List ℕ → ℕ → Words
+abbrev pub after-blocks : Words → List ℕ → ℕ → Words
 after-blocks s bytes zero = s
 after-blocks s bytes (suc n) = compressed (after-blocks s bytes n) (block bytes n)
 

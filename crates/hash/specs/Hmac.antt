@@ -27,7 +27,7 @@ unfoldable pub hmac : List ℕ → List ℕ → List ℕ
 hmac key text = sha256 (mixed (block-key key) 0x5c ++ sha256 (mixed (block-key key) 0x36 ++ text))
 
 -- What is kept of a key: the hash values after its two mixed blocks.
-unfoldable pub kept : List ℕ → MacKey
+abbrev pub kept : List ℕ → MacKey
 kept key =
     record {
       inner = compressed initial (mixed (block-key key) 0x36);
@@ -35,7 +35,7 @@ kept key =
     }
 
 -- The tag under a kept key: both hashes go on from the kept values, after one block.
-unfoldable pub tag-under : MacKey → List ℕ → List ℕ
+abbrev pub tag-under : MacKey → List ℕ → List ℕ
 tag-under k text = resumed (k .outer) 64 (resumed (k .inner) 64 text)
 
 -- A kept key gives the tags of the key that it was made from.

@@ -5,6 +5,7 @@ ghost use Prim.Native.Nat.{_≤_};
 ghost use lib.ListN.{length, replicate};
 ghost use Rattle.hash.specs.Compression.{compressed};
 ghost use Rattle.hash.specs.Constants.{initial};
+ghost use Rattle.hash.specs.Digest.{resumed};
 ghost use Rattle.hash.specs.Hmac.{filled, block-key, mixed, hmac, kept, tag-under, Tags-as-key};
 use crate::block::HashBytes;
 use crate::block::Words;
@@ -74,16 +75,24 @@ impl MacKey {
         }
     }
 
+    fn inner_hash(&self, text: &[u8]) -> HashBytes
+        ensures { λ r. ⌜ r ≡ resumed (now (self .entry) .inner) 64 (now (text .entry)) ⌝ }
+    {
+        Hasher::after_block(self.inner).hash_only(text)
+    }
+
+    fn outer_hash(&self, inner: &HashBytes) -> HashBytes
+        ensures { λ r. ⌜ r ≡ resumed (now (self .entry) .outer) 64 (now (inner .entry)) ⌝ }
+    {
+        Hasher::after_block(self.outer).hash_only(inner)
+    }
+
+    // The tag of a text.
     pub fn tag(&self, text: &[u8]) -> HashBytes
         ensures value { λ r. ⌜ r ≡ tag-under (now (self .entry)) (now (text .entry)) ⌝ }
         ensures tags_as_key { λ _. ⌜ Tags-as-key ⌝ }
     {
-        let mut inner = Hasher::after_block(self.inner);
-        inner.update(text);
-        let digest = inner.finish();
-        let mut outer = Hasher::after_block(self.outer);
-        outer.update(&digest);
-        outer.finish()
+        self.outer_hash(&self.inner_hash(text))
     }
 }
 

@@ -129,13 +129,29 @@ impl Hasher {
         }
     }
 
+    // The hash value after the unfinished block and the padding.
+    fn last_value(&self) -> Words
+        ensures { λ r. ⌜ r ≡ after-all (now (self .entry) .state) (take (now (self .entry) .len % 64) (now (self .entry) .tail) ++ padding (now (self .entry) .len)) ⌝ }
+    {
+        let have = (self.len % 64) as usize;
+        close(self.state, &self.tail[0..have], self.len)
+    }
+
     // The hash of all that was taken.
     pub fn finish(self) -> HashBytes
         ensures whole { λ r. ⌜ ((m : List ℕ) → Took initial 0 self m → r ≡ sha256 m) ⌝ }
         ensures rest { λ r. ⌜ ((s : Words) (before : ℕ) (m : List ℕ) → Took s before self m → r ≡ resumed s before m) ⌝ }
     {
-        let have = (self.len % 64) as usize;
-        bytes_of(close(self.state, &self.tail[0..have], self.len))
+        bytes_of(self.last_value())
+    }
+
+    // The hash of these bytes alone, where nothing was taken before them.
+    pub(crate) fn hash_only(mut self, bytes: &[u8]) -> HashBytes
+        ensures whole { λ r. ⌜ (Took initial 0 self [] → r ≡ sha256 (now (bytes .entry))) ⌝ }
+        ensures rest { λ r. ⌜ ((s : Words) (before : ℕ) → Took s before self [] → r ≡ resumed s before (now (bytes .entry))) ⌝ }
+    {
+        self.update(bytes);
+        self.finish()
     }
 }
 
@@ -143,7 +159,5 @@ impl Hasher {
 pub fn sha256(message: &[u8]) -> HashBytes
     ensures { λ r. ⌜ r ≡ sha256 (now (message .entry)) ⌝ }
 {
-    let mut h = Hasher::new();
-    h.update(message);
-    h.finish()
+    Hasher::new().hash_only(message)
 }

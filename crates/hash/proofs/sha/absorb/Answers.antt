@@ -4,11 +4,8 @@ use native.Mathlib.Omega.{arith}
 use lib.ListN.{length, take, drop}
 use Rattle.hash.specs.Compression.{compressed}
 use Rattle.hash.specs.Digest.{block, after-blocks}
-use Rattle.hash.proofs.Blocks.{after-none, after-more}
+use Rattle.hash.proofs.Blocks.{after-more}
 use Rattle.hash.proofs.sha.absorb.Needs as need
-
-pub loop-k-holds : need.loop-k-holds
-loop-k-holds c = sym (after-none _ _)
 
 pub loop-k-again : need.loop-k-again
 loop-k-again c =
