@@ -1,9 +1,11 @@
 // A quarter's commands, run on the seat book and noted in the trail.
 ghost use mathlib.Core.Path.{_≡_};
 ghost use mathlib.Core.Bool.{cond};
+ghost use mathlib.Core.List.{[]};
 ghost use Rattle.std.specs.Results.{isOk};
 ghost use Rattle.std.specs.Vec.{made};
-ghost use Rattle.quarter.specs.Quarters.{standing, fresh, entered, after-line, settled, Book-of-requests};
+ghost use Rattle.std.specs.shelf.Lists.{folded};
+ghost use Rattle.quarter.specs.Quarters.{standing, fresh, entered, after-line, lines-from, settled, Book-of-requests};
 use crate::Entry;
 use crate::Fault;
 use crate::FaultDebug;
@@ -36,9 +38,8 @@ pub struct Quarter {
 }
 
 impl Quarter {
-    pub fn new(heap: Global) -> Quarter
-        ensures stands { λ r. ⌜ standing r ≡ fresh ⌝ }
-        ensures book_of_requests { λ _. ⌜ Book-of-requests ⌝ }
+    fn empty(heap: Global) -> Quarter
+        ensures { λ r. ⌜ standing r ≡ fresh ⌝ }
     {
         Quarter {
             book: SeatBook::new(),
@@ -48,6 +49,14 @@ impl Quarter {
             refused: 0,
             unread: Vec::new(heap),
         }
+    }
+
+    /// A quarter of which no line was taken yet.
+    pub fn new(heap: Global) -> Quarter
+        ensures stands { λ r. ⌜ standing r ≡ fresh ⌝ }
+        ensures book_of_requests { λ _. ⌜ Book-of-requests ⌝ }
+    {
+        Quarter::empty(heap)
     }
 
     fn enter(&mut self, entry: Entry)
@@ -84,21 +93,29 @@ impl Quarter {
         Ok(())
     }
 
+    // Takes the lines of a text, one after the other.
+    fn text(&mut self, text: &[u8]) -> Result<(), AllocError>
+        ensures { λ r. ⌜ made r (λ _. standing (now (self .exit)) ≡ folded after-line (standing (now (self .entry))) (lines-from [] (now (text .entry)))) ⌝ }
+    {
+        let mut start = 0;
+        for i in 0..text.len() {
+            if text[i] == b'\n' {
+                self.line(&text[start..i])?;
+                start = i + 1;
+            }
+        }
+        if start < text.len() {
+            self.line(&text[start..text.len()])?;
+        }
+        Ok(())
+    }
+
     /// Settles a quarter's text, line by line.
     pub fn settle(heap: Global, text: &[u8]) -> Result<Quarter, AllocError>
         ensures { λ r. ⌜ made r (λ q. standing q ≡ settled (now (text .entry))) ⌝ }
     {
         let mut q = Quarter::new(heap);
-        let mut start = 0;
-        for i in 0..text.len() {
-            if text[i] == b'\n' {
-                q.line(&text[start..i])?;
-                start = i + 1;
-            }
-        }
-        if start < text.len() {
-            q.line(&text[start..text.len()])?;
-        }
+        q.text(text)?;
         Ok(q)
     }
 }

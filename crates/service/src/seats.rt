@@ -6,7 +6,7 @@ ghost use lib.ListN.{getD};
 ghost use Rattle.std.specs.Options.{isSome, valueOr};
 ghost use Rattle.service.specs.declared.seats.Product.{Product};
 ghost use Rattle.service.specs.Laws.{Sets-stand, Never-oversold, Never-above-bought};
-ghost use Rattle.service.specs.Seats.{fresh-book, amount, well-formed, acted, seats-after, seats-answer, seats-digest, entry, out, holds, found-product};
+ghost use Rattle.service.specs.Seats.{no-product, fresh-book, amount, well-formed, acted, seats-after, seats-answer, seats-digest, entry, out, holds, found-product};
 use crate::service::Command;
 use crate::service::Service;
 use hash::HashBytes;
@@ -27,6 +27,16 @@ pub struct Product {
 }
 
 impl Product {
+    // A product of which nothing is bought and nothing is out.
+    fn unsold() -> Product
+        ensures { λ r. ⌜ r ≡ no-product ⌝ }
+    {
+        Product {
+            bought: 0,
+            holders: 0,
+        }
+    }
+
     // The product's entry in the digest.
     fn entry(&self) -> [u8; 9]
         ensures { λ r. ⌜ r ≡ entry (now (self .entry)) ⌝ }
@@ -108,10 +118,7 @@ impl SeatBook {
         ensures never_above_bought { λ _. ⌜ Never-above-bought ⌝ }
     {
         SeatBook {
-            products: [Product {
-                bought: 0,
-                holders: 0,
-            }; 16],
+            products: [Product::unsold(); 16],
         }
     }
 

@@ -2,6 +2,7 @@
 ghost use mathlib.Core.Path.{_≡_};
 ghost use mathlib.Core.List.{List};
 ghost use Prim.Native.Nat.{ℕ};
+ghost use Rattle.hash.specs.Bytes.{number-at};
 ghost use Rattle.service.specs.Trails.{fresh-trail, trail-after, trail-answer};
 use crate::service::Command;
 use crate::service::Service;
@@ -20,6 +21,33 @@ impl Trail {
     {
         Trail { bytes: [0; 32] }
     }
+
+    // The trail after one more command.
+    fn next(&self, client: u16, command: &Command) -> HashBytes
+        ensures { λ r. ⌜ r ≡ trail-after (now (self .entry) .bytes) client (now (command .entry)) ⌝ }
+    {
+        let mut h = Hasher::new();
+        h.update(&self.bytes);
+        h.update(&client.to_be_bytes());
+        h.update(command);
+        h.finish()
+    }
+}
+
+// The first eight bytes as a number.
+fn first_number(bytes: &HashBytes) -> u64
+    ensures { λ r. ⌜ r ≡ number-at 8 (now (bytes .entry)) 0 ⌝ }
+{
+    u64::from_be_bytes([
+        bytes[0],
+        bytes[1],
+        bytes[2],
+        bytes[3],
+        bytes[4],
+        bytes[5],
+        bytes[6],
+        bytes[7],
+    ])
 }
 
 pub impl Service for Trail as TrailService {
@@ -34,22 +62,9 @@ pub impl Service for Trail as TrailService {
     ghost digest = { λ bytes. bytes };
 
     fn step(&mut self, client: u16, command: &Command) -> u64 {
-        let mut h = Hasher::new();
-        h.update(&self.bytes);
-        h.update(&client.to_be_bytes());
-        h.update(command);
-        let next = h.finish();
+        let next = self.next(client, command);
         self.bytes = next;
-        u64::from_be_bytes([
-            next[0],
-            next[1],
-            next[2],
-            next[3],
-            next[4],
-            next[5],
-            next[6],
-            next[7],
-        ])
+        first_number(&next)
     }
 
     fn digest(&self) -> HashBytes {
