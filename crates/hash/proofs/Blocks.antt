@@ -1,6 +1,6 @@
-use Prim.Native.Nat.{ℕ, zero, suc, _+_, _-_, _*_, _/_, _%_, _<_, _≤_}
+use Prim.Native.Nat.{ℕ, zero, suc, _+_, _-_, _*_, _≤_}
 use mathlib.Core.Path.{_≡_, refl, sym, _∙_, ap}
-use mathlib.Core.List.{List, [], _∷_, _++_}
+use mathlib.Core.List.{List, _++_}
 use native.Mathlib.Numerals.{add-one}
 use native.Mathlib.Omega.{arith}
 use lib.ListN.{length, take, drop}
@@ -8,9 +8,6 @@ use Rattle.std.proofs.shelf.Lists.{drop-append-le, take-append-le, length-drop,
 use Rattle.hash.specs.declared.block.Words.{Words}
 use Rattle.hash.specs.Compression.{compressed}
 use Rattle.hash.specs.Digest.{block, after-blocks}
-
-pub after-none : (s : Words) (bs : List ℕ) → after-blocks s bs 0 ≡ s
-after-none s bs = refl
 
 pub after-more : (s : Words) (bs : List ℕ) (n : ℕ) → after-blocks s bs (n + 1) ≡ compressed (after-blocks s bs n) (block bs n)
 after-more s bs n = rw add-one

@@ -8,7 +8,7 @@ use Rattle.std.proofs.shelf.Lists.{getD-take, length-push, take-all, take-appen
 use Rattle.hash.specs.declared.block.Words.{Words}
 use Rattle.hash.specs.Bytes.{number-at}
 use Rattle.hash.specs.Compression.{words, next-word, schedule, round, rounds}
-use Rattle.hash.specs.Constants.{constants, fraction, root, primes}
+use Rattle.hash.specs.Constants.{constants, fraction, root}
 
 -- each recursion, one step on
 pub words-none : (block : List ℕ) → words block 0 ≡ []

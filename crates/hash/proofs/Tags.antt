@@ -1,19 +1,17 @@
-use Prim.Native.Nat.{ℕ, _+_, _-_, _*_, _/_, _≤_}
-use mathlib.Core.Path.{_≡_, refl, sym, _∙_, ap}
-use mathlib.Core.Bool.{Bool, true, false, cond}
-use mathlib.Core.List.{List, [], _∷_, _++_, map}
+use Prim.Native.Nat.{ℕ, _+_, _-_, _/_, _≤_}
+use mathlib.Core.Path.{_≡_, sym, _∙_, ap}
+use mathlib.Core.Bool.{cond}
+use mathlib.Core.List.{List, _++_}
 use native.Mathlib.Omega.{arith}
-use lib.Bits.{bitXor}
 use lib.Dec.{leb}
-use lib.ListN.{length, take, drop, replicate}
+use lib.ListN.{length}
 use Rattle.std.proofs.shelf.Lists.{append-assoc, length-append, length-map, length-replicate, take-all}
-use Rattle.std.proofs.shelf.Tests.{leb-true, leb-false, cond-both}
-use Rattle.hash.specs.declared.block.Words.{Words}
+use Rattle.std.proofs.shelf.Tests.{leb-true, cond-both}
 use Rattle.hash.specs.Compression.{compressed}
 use Rattle.hash.specs.Constants.{initial}
 use Rattle.hash.specs.Digest.{padding, block, after-blocks, after-all, bytes-of, sha256, resumed}
-use Rattle.hash.specs.Hmac.{filled, block-key, mixed, hmac, kept, tag-under, Tags-as-key}
-use Rattle.hash.proofs.Blocks.{after-none, after-more, after-rest}
+use Rattle.hash.specs.Hmac.{filled, block-key, mixed, hmac, Tags-as-key}
+use Rattle.hash.proofs.Blocks.{after-more, after-rest}
 
 -- a hash that goes on after one block is the hash of the whole
 pub resumed-block : (b text : List ℕ) → length b ≡ 64 → resumed (compressed initial b) 64 text ≡ sha256 (b ++ text)
@@ -23,7 +21,7 @@ resumed-block b text long =
     let size : 64 + length text ≡ all = omega (arith, length-append b text) in
     let rest = text ++ padding all in
     let first : compressed initial b ≡ after-blocks initial b 1 =
-    sym (after-more initial b 0 ∙ ap (λ v. compressed v (block b 0)) (after-none initial b) ∙ ap (compressed initial) (take-all 64 b (omega arith)))
+    sym (after-more initial b 0 ∙ ap (compressed initial) (take-all 64 b (omega arith)))
     in
     let count : 1 + length rest / 64 ≡ length ((b ++ text) ++ padding all) / 64 =
     omega (arith, length-append (b ++ text) (padding all), length-append b text, length-append text (padding all))

@@ -1,6 +1,6 @@
 use Prim.Native.Nat.{ℕ, _+_, _-_, _*_, _/_, _%_, _^_, _<_, _≤_}
 use mathlib.Core.Path.{_≡_, refl, sym, _∙_, ap}
-use mathlib.Core.List.{List, [], _∷_, _++_}
+use mathlib.Core.List.{List, _++_}
 use native.Mathlib.Omega.{arith}
 use lib.ListN.{length, take, drop}
 use Rattle.std.proofs.shelf.Lists.{append-assoc, length-append, length-drop, length-take-le, take-append-drop, drop-append-le, drop-at, drop-all, drop-drop, take-all}
@@ -9,12 +9,8 @@ use Rattle.hash.specs.declared.sha.Hasher.{Hasher}
 use Rattle.hash.specs.Compression.{compressed}
 use Rattle.hash.specs.Digest.{padding, block, after-blocks, after-all}
 use Rattle.hash.specs.Taken.{Took}
-use Rattle.hash.proofs.Blocks.{after-none, after-more, after-front, after-rest}
+use Rattle.hash.proofs.Blocks.{after-more, after-front, after-rest}
 use Rattle.hash.proofs.Paddings.{padding-low}
-
-pub took-none : (s t : Words) (before : ℕ) (tail : List ℕ) → t ≡ s → before % 64 ≡ 0 → before < 2 ^ 64
-    → Took s before (record { state = t; tail = tail; len = before }) []
-took-none s t before tail e whole small = record { whole = whole; value = e ∙ sym (after-none s []); rest = refl; count = omega arith }
 
 module _ (s : Words) (before : ℕ) (h : Hasher) (m bytes tail : List ℕ) (took : Took s before h m) where
   -- the kept bytes are as many as the count says

@@ -1,5 +1,5 @@
 use Prim.Native.Nat.{ℕ, zero, suc, _+_, _*_, _-_, _/_, _%_}
-use mathlib.Core.List.{List, [], _∷_, _++_}
+use mathlib.Core.List.{List, _∷_, _++_}
 use lib.ListN.{length, replicate, take, drop}
 use Rattle.hash.specs.declared.block.Words.{Words}
 use Rattle.hash.specs.Bytes.{big-endian}

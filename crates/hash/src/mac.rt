@@ -1,6 +1,5 @@
 // HMAC-SHA-256, with what depends on the key alone computed once.
 ghost use mathlib.Core.Path.{_≡_};
-ghost use mathlib.Core.List.{_++_};
 ghost use Prim.Native.Nat.{_≤_};
 ghost use lib.ListN.{length, replicate};
 ghost use Rattle.hash.specs.Compression.{compressed};
@@ -11,7 +10,7 @@ use crate::block::HashBytes;
 use crate::block::Words;
 use crate::block::compress;
 use crate::block::first_value;
-use crate::sha::Hasher;
+use crate::sha::hash_from;
 use crate::sha::sha256;
 
 // Writes bytes over the front of a block of zeros.
@@ -78,13 +77,13 @@ impl MacKey {
     fn inner_hash(&self, text: &[u8]) -> HashBytes
         ensures { λ r. ⌜ r ≡ resumed (now (self .entry) .inner) 64 (now (text .entry)) ⌝ }
     {
-        Hasher::after_block(self.inner).hash_only(text)
+        hash_from(self.inner, 64, text)
     }
 
     fn outer_hash(&self, inner: &HashBytes) -> HashBytes
         ensures { λ r. ⌜ r ≡ resumed (now (self .entry) .outer) 64 (now (inner .entry)) ⌝ }
     {
-        Hasher::after_block(self.outer).hash_only(inner)
+        hash_from(self.outer, 64, inner)
     }
 
     // The tag of a text.

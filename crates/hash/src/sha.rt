@@ -1,9 +1,8 @@
 // SHA-256 of a message that comes in one part or in several.
 ghost use mathlib.Core.Path.{_≡_};
 ghost use mathlib.Core.List.{List, [], _∷_, _++_};
-ghost use Prim.Native.Nat.{ℕ, _+_, _-_, _*_, _/_, _%_, _<_, _≤_};
-ghost use lib.ListN.{length, take, drop, replicate};
-ghost use Rattle.hash.specs.declared.block.Words.{Words};
+ghost use Prim.Native.Nat.{ℕ, _+_, _-_, _%_, _<_, _≤_};
+ghost use lib.ListN.{length, take, replicate};
 ghost use Rattle.hash.specs.Constants.{initial};
 ghost use Rattle.hash.specs.Digest.{padding, after-all, sha256, resumed};
 ghost use Rattle.hash.specs.Taken.{Took, Goes-on};
@@ -53,6 +52,21 @@ fn close(state: Words, tail: &[u8], len: u64) -> Words
     absorb(state, &end)
 }
 
+// The hash of a message from its rest in one piece, where the bytes before it, whole blocks, gave a hash value.
+pub(crate) fn hash_from(state: Words, before: u64, rest: &[u8]) -> HashBytes
+    requires { ⌜ before % 64 ≡ 0 ⌝ }
+    ensures rest { λ r. ⌜ r ≡ resumed state before (now (rest .entry)) ⌝ }
+    ensures whole { λ r. ⌜ (state ≡ initial → before ≡ 0 → r ≡ sha256 (now (rest .entry))) ⌝ }
+{
+    let n = rest.len();
+    let left = n % 64;
+    bytes_of(close(
+        absorb(state, rest),
+        &rest[n - left..n],
+        before.wrapping_add(n as u64),
+    ))
+}
+
 // SHA-256 of bytes that come part by part. Only an unfinished block is copied.
 #[derive(Clone, Copy)]
 pub struct Hasher {
@@ -69,17 +83,6 @@ impl Hasher {
             state: first_value(),
             tail: [0; 64],
             len: 0,
-        }
-    }
-
-    // A hasher that goes on from the hash value of one block.
-    pub(crate) fn after_block(state: Words) -> Hasher
-        ensures { λ r. ⌜ Took state 64 r [] ⌝ }
-    {
-        Hasher {
-            state,
-            tail: [0; 64],
-            len: 64,
         }
     }
 
@@ -139,19 +142,9 @@ impl Hasher {
 
     // The hash of all that was taken.
     pub fn finish(self) -> HashBytes
-        ensures whole { λ r. ⌜ ((m : List ℕ) → Took initial 0 self m → r ≡ sha256 m) ⌝ }
-        ensures rest { λ r. ⌜ ((s : Words) (before : ℕ) (m : List ℕ) → Took s before self m → r ≡ resumed s before m) ⌝ }
+        ensures { λ r. ⌜ ((m : List ℕ) → Took initial 0 self m → r ≡ sha256 m) ⌝ }
     {
         bytes_of(self.last_value())
-    }
-
-    // The hash of these bytes alone, where nothing was taken before them.
-    pub(crate) fn hash_only(mut self, bytes: &[u8]) -> HashBytes
-        ensures whole { λ r. ⌜ (Took initial 0 self [] → r ≡ sha256 (now (bytes .entry))) ⌝ }
-        ensures rest { λ r. ⌜ ((s : Words) (before : ℕ) → Took s before self [] → r ≡ resumed s before (now (bytes .entry))) ⌝ }
-    {
-        self.update(bytes);
-        self.finish()
     }
 }
 
@@ -159,5 +152,5 @@ impl Hasher {
 pub fn sha256(message: &[u8]) -> HashBytes
     ensures { λ r. ⌜ r ≡ sha256 (now (message .entry)) ⌝ }
 {
-    Hasher::new().hash_only(message)
+    hash_from(first_value(), 0, message)
 }

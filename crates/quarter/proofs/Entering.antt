@@ -1,13 +1,12 @@
 use Prim.Native.Nat.{ℕ}
-use mathlib.Core.Path.{_≡_, refl, sym, _∙_, ap}
-use mathlib.Core.Bool.{Bool, true, false, cond}
+use mathlib.Core.Path.{_≡_, sym, _∙_, ap}
+use mathlib.Core.Bool.{Bool, cond}
 use mathlib.Core.List.{List}
 use lib.Dec.{eqb}
 use Rattle.service.specs.declared.seats.Product.{Product}
 use Rattle.service.specs.Seats.{seats-after, seats-answer}
 use Rattle.service.specs.Trails.{trail-after}
 use Rattle.quarter.specs.declared.Entry.{Entry}
-use Rattle.quarter.specs.declared.settle.Unread.{Unread}
 use Rattle.quarter.specs.Commands.{client-of, command-of}
 use Rattle.quarter.specs.Quarters.{Standing, one-more, entered}
 

@@ -1,6 +1,6 @@
 -- What an entry asks of the service.
 use Prim.Native.Nat.{ℕ}
-use mathlib.Core.List.{List, [], _∷_, _++_}
+use mathlib.Core.List.{List, _∷_, _++_}
 use lib.ListN.{replicate}
 use Rattle.hash.specs.Bytes.{big-endian}
 use Rattle.service.specs.Seats.{take-act, return-act, buy-act}

@@ -1,4 +1,4 @@
-use Prim.Native.Nat.{ℕ, max, _+_, _<_, _≤_}
+use Prim.Native.Nat.{ℕ, max, _+_, _≤_}
 use mathlib.Core.Path.{_≡_, refl, sym, _∙_, ap, subst}
 use mathlib.Core.Bool.{Bool, true, false, cond, _&&_, not}
 use mathlib.Core.List.{List, [], _∷_}
@@ -6,15 +6,15 @@ use mathlib.Core.Logic.{_⊎_, inl, inr}
 use native.Mathlib.Omega.{arith}
 use lib.Count.{ones-le}
 use lib.Dec.{eqb, ltb, leb}
-use lib.ListN.{length, getD, set}
+use lib.ListN.{length}
 use Rattle.std.proofs.shelf.Lists.{getD-replicate, getD-past, getD-set-same, getD-set-other, set-past}
 use Rattle.std.proofs.shelf.Tests.{and-parts, not-true, ltb-true, eqb-true, cond-both, cases-eq, cases-lt}
 use Rattle.std.specs.Options.{isSome, valueOr}
 use Rattle.std.specs.declared.option.Option.{Option}
 use Rattle.std.specs.declared.option.Option.the-variants.{Some, None}
 use Rattle.service.specs.declared.seats.Product.{Product}
-use Rattle.service.specs.Sets.{has, with, without, size}
-use Rattle.service.specs.Seats.{fresh-book, no-product, product-at, out, holds, act, product, amount, well-formed, given, returned, bought-to, acted, done, seats-after, seats-answer}
+use Rattle.service.specs.Sets.{has, without}
+use Rattle.service.specs.Seats.{fresh-book, no-product, product-at, out, holds, act, product, amount, well-formed, given, returned, bought-to, acted, done, seats-after}
 use Rattle.service.specs.Laws.{book-after, out-at, bought-at, Gained, Never-oversold, most-bought, Never-above-bought}
 use Rattle.service.proofs.Members.{size-with, size-without}
 

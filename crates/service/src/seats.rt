@@ -2,7 +2,6 @@
 ghost use mathlib.Core.Path.{_≡_};
 ghost use mathlib.Core.List.{List};
 ghost use Prim.Native.Nat.{ℕ, _<_};
-ghost use lib.ListN.{getD};
 ghost use Rattle.std.specs.Options.{isSome, valueOr};
 ghost use Rattle.service.specs.declared.seats.Product.{Product};
 ghost use Rattle.service.specs.Laws.{Sets-stand, Never-oversold, Never-above-bought};

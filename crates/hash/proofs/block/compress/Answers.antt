@@ -1,4 +1,3 @@
-use mathlib.Core.Path.{_≡_, sym, _∙_, ap}
 use Rattle.hash.specs.Compression.{compressed}
 use Rattle.hash.proofs.block.compress.Needs as need
 

@@ -1,6 +1,6 @@
 use mathlib.Core.Path.{_≡_}
 use mathlib.Core.List.{List}
-use Prim.Native.Nat.{ℕ, _-_, _≤_}
+use Prim.Native.Nat.{ℕ, _-_}
 use lib.ListN.{take, length}
 use Rattle.hash.specs.Compression.{schedule}
 use Rattle.hash.proofs.block.extend.Given as given

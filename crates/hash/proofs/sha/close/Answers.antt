@@ -1,4 +1,4 @@
-use mathlib.Core.Path.{_≡_, _∙_, ap}
+use mathlib.Core.Path.{_∙_, ap}
 use native.Mathlib.Omega.{arith}
 use Rattle.hash.specs.Digest.{after-all}
 use Rattle.hash.proofs.Paddings.{padding-laid}

@@ -1,8 +1,8 @@
 use mathlib.Core.Path.{_≡_, _∙_, ap, subst}
-use mathlib.Core.List.{List, _∷_, _++_}
+use mathlib.Core.List.{List, _++_}
 use Prim.Native.Nat.{ℕ, _+_}
 use native.Mathlib.Omega.{arith}
-use lib.ListN.{take, getD}
+use lib.ListN.{take}
 use Rattle.std.proofs.shelf.Lists.{take-all}
 use Rattle.std.specs.shelf.Lists.{joined}
 use Rattle.hash.specs.Constants.{initial}
@@ -25,4 +25,4 @@ pub returns : need.returns
 unfolding seats-digest
 returns c =
     let book = c .args .products .now in
-    c .finish .ensures .whole _ (c .loop-p .inv) ∙ ap (λ l. sha256 (joined entry l)) (take-all (c .loop-p .p-index) book (omega arith))
+    c .finish .ensures _ (c .loop-p .inv) ∙ ap (λ l. sha256 (joined entry l)) (take-all (c .loop-p .p-index) book (omega arith))

@@ -1,4 +1,3 @@
-use mathlib.Core.Path.{_≡_}
 use lib.ListN.{take}
 use Rattle.std.specs.shelf.Lists.{joined}
 use Rattle.hash.specs.Constants.{initial}

@@ -1,11 +1,11 @@
 use mathlib.Core.Path.{_≡_, sym, _∙_, ap}
-use mathlib.Core.Bool.{Bool, true, false, cond, _&&_}
+use mathlib.Core.Bool.{Bool, false, cond, _&&_}
 use lib.Dec.{ltb}
 use lib.ListN.{set}
 use Rattle.std.proofs.shelf.Lists.{set-getD}
 use Rattle.std.proofs.shelf.Tests.{le-ltb, and-left, and-right}
 use Rattle.std.specs.Options.{isSome, valueOr}
-use Rattle.std.specs.declared.option.Option.the-variants.{Some, None}
+use Rattle.std.specs.declared.option.Option.the-variants.{None}
 use Rattle.service.specs.Seats.{no-product, product, product-at, well-formed, acted, act, amount}
 use Rattle.service.proofs.seats.SeatBookService.step.Needs as need
 use Rattle.service.proofs.seats.SeatBookService.step.Needs.{then-client-ge64·by·then-client-ge64, then-client-ge64·by·else-client-ge64·then-not-formed}

@@ -1,4 +1,4 @@
-use mathlib.Core.Path.{_≡_, _∙_, ap}
+use mathlib.Core.Path.{_∙_, ap}
 use mathlib.Core.List.{[], _++_}
 use Rattle.hash.specs.Constants.{initial}
 use Rattle.hash.specs.Digest.{sha256}
@@ -13,5 +13,5 @@ returns c =
     let took1 = c .update .ensures initial 0 [] (c .new-h .ensures) in
     let took2 = c .update-2 .ensures initial 0 bytes took1 in
     let took3 = c .update-3 .ensures initial 0 (bytes ++ client) took2 in
-    c .finish .ensures .whole ((bytes ++ client) ++ command) took3 ∙ ap sha256 (append-assoc bytes client command)
+    c .finish .ensures ((bytes ++ client) ++ command) took3 ∙ ap sha256 (append-assoc bytes client command)
     ∙ ap (λ l. sha256 (bytes ++ (l ++ command))) (c .to-be-bytes .ensures)
