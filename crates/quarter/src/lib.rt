@@ -1,6 +1,6 @@
 //! Reads the lines of a quarter's licence commands: `buy PRODUCT AMOUNT`, `take CLIENT PRODUCT` and
 //! `return CLIENT PRODUCT`. A `#` starts a comment.
-ghost use Prim.Native.Nat.{_<_, _≤_, min};
+ghost use Prim.Native.Nat.{_≤_, min};
 ghost use mathlib.Core.Path.{_≡_};
 ghost use lib.ListN.{length};
 ghost use Rattle.std.specs.Options.{mapped};
@@ -11,7 +11,7 @@ ghost use Rattle.std.specs.shelf.Text.{sameBytes};
 ghost use Rattle.quarter.specs.Commands.{client-of, command-of};
 ghost use Rattle.quarter.specs.Lines.{act-of, entry-read, line-read};
 ghost use Rattle.quarter.specs.Numbers.{decimal, field-read};
-ghost use Rattle.quarter.specs.Texts.{fault-text, hex-digit, hex-text};
+ghost use Rattle.quarter.specs.Texts.{fault-text};
 ghost use Rattle.quarter.specs.Words.{after-word, first-word, in-run, uncommented};
 
 mod settle;
@@ -241,35 +241,6 @@ fn number(word: &[u8]) -> Option<u64>
     Some(n)
 }
 
-/// Bytes that are written in lower-case hex, two digits each.
-#[derive(Clone, Copy)]
-pub struct Hex<'a>(pub &'a [u8]);
-
-pub impl fmt::Display for Hex<'_> as HexDisplay {
-    ghost shown = { λ hex. Some (hex-text (hex .0 .now)) };
-
-    fn fmt<W: fmt::Write>(&self, f: &mut fmt::Formatter<W>) -> fmt::Result {
-        for b in self.0 {
-            let high = hex_digit(b / 16);
-            let low = hex_digit(b % 16);
-            write!(f, "{high}{low}")?;
-        }
-        Ok(())
-    }
-}
-
-fn hex_digit(d: u8) -> char
-    requires { ⌜ d < 16 ⌝ }
-    ensures value { λ r. ⌜ r ≡ hex-digit d ⌝ }
-    ensures ascii { λ r. ⌜ r < 128 ⌝ }
-{
-    if d < 10 {
-        (b'0' + d) as char
-    } else {
-        (b'a' + (d - 10)) as char
-    }
-}
-
 #[cfg(test)]
 mod tests {
     use super::*;
@@ -313,9 +284,10 @@ mod tests {
     #[test]
     fn texts(rt: LibcRuntime) -> Result<(), Fail> {
         let (product, amount) = (10, 0x1ff);
-        let bought = Entry::Buy { product, amount };
-        let hex = Hex(&bought.command()).to_string(rt.alloc())?;
-        check_eq(hex.as_str(), "030a000001ff00000000")?;
+        check_eq(
+            Entry::Buy { product, amount }.command(),
+            [BUY, 10, 0, 0, 1, 0xff, 0, 0, 0, 0],
+        )?;
         let text = Fault::OutOfRange(2).to_string(rt.alloc())?;
         check_eq(text.as_str(), "field 2 is out of range")
     }

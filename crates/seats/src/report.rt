@@ -1,7 +1,7 @@
 // The royalty report of a settled quarter.
+use hex::Hex;
+use hex::HexDisplay;
 use quarter::FaultDisplay;
-use quarter::Hex;
-use quarter::HexDisplay;
 use quarter::Quarter;
 use service::Product;
 use service::SeatBook;

@@ -3,8 +3,8 @@ use hash::HashBytes;
 use hash::Hasher;
 use hash::hmac;
 use hash::sha256;
-use quarter::Hex;
-use quarter::HexDisplay;
+use hex::Hex;
+use hex::HexDisplay;
 use std::error::AnyError;
 
 const TWO_BLOCKS: &[u8] = b"abcdbcdecdefdefgefghfghighijhijkijkljklmklmnlmnomnopnopq";

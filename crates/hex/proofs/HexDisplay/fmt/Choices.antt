@@ -1,8 +1,8 @@
 use lib.ListN.{take}
 use denote.Ref.{now}
 use Rattle.std.specs.Written.{Plain, Put}
-use Rattle.quarter.specs.Texts.{hex-text}
-use Rattle.quarter.proofs.HexDisplay.fmt.Given as given
+use Rattle.hex.specs.Texts.{hex-text}
+use Rattle.hex.proofs.HexDisplay.fmt.Given as given
 
 -- the bytes so far are written
 abbrev pub Inv-loop-b : given.InvT-loop-b

@@ -7,8 +7,8 @@ use lib.Utf8.{encode}
 use Rattle.std.proofs.Writes.{put-more, put-is}
 use Rattle.std.proofs.shelf.Lists.{joined-more, take-all, take-more}
 use Rattle.std.proofs.shelf.Text.{encode-ascii}
-use Rattle.quarter.specs.Texts.{hex-digit, hex-pair, hex-text}
-use Rattle.quarter.proofs.HexDisplay.fmt.Needs as need
+use Rattle.hex.specs.Texts.{hex-digit, hex-pair, hex-text}
+use Rattle.hex.proofs.HexDisplay.fmt.Needs as need
 
 pair : (high low b : ℕ) → high < 128 → low < 128 → high ≡ hex-digit (b / 16) → low ≡ hex-digit (b % 16) → encode high ++ encode low ≡ hex-pair b
 pair high low b h l e f = (λ i. encode-ascii high h i ++ encode-ascii low l i) ∙ (λ i. e i ∷ f i ∷ [])
