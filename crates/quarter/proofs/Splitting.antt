@@ -1,13 +1,13 @@
 use Prim.Native.Nat.{ℕ, _+_, _<_, _≤_}
 use mathlib.Core.Path.{_≡_, sym, _∙_, ap}
-use mathlib.Core.Bool.{Bool, true, false, cond}
+use mathlib.Core.Bool.{Bool, true, false, cond, _&&_}
 use mathlib.Core.List.{List, [], _∷_, _++_}
 use native.Mathlib.Omega.{arith}
 use lib.Dec.{eqb}
 use lib.ListN.{length, getD, drop}
 use Rattle.std.proofs.shelf.Edits.{between-none, between-more, length-between}
 use Rattle.std.proofs.shelf.Lists.{at-drop-more, at-drop-all}
-use Rattle.std.proofs.shelf.Tests.{eq-eqb, ne-eqb}
+use Rattle.std.proofs.shelf.Tests.{eq-eqb, ne-eqb, and-parts}
 use Rattle.std.specs.Holes.{between}
 use Rattle.std.specs.shelf.Lists.{folded}
 use Rattle.quarter.specs.Quarters.{lines-from}
@@ -46,3 +46,24 @@ module _ {S : Type 0} (f : S → List ℕ → S) (text : List ℕ) (i start : �
   text-ended s end none =
       at-drop-all (λ r. folded f s (lines-from (between start i text) r)) text i (omega arith)
       ∙ ap (λ (b : Bool). folded f s (cond b [] (between start i text ∷ []))) (eq-eqb (length (between start i text)) 0 (length-between text start i (omega arith) ∙ omega arith))
+
+-- where all lines pass a test, so did those before
+all-pass : (P : List ℕ → Bool) (b : Bool) (ls : List (List ℕ)) → folded (λ ok l. ok && P l) b ls ≡ true → b ≡ true
+all-pass P b [] h = h
+all-pass P b (l ∷ ls) h = and-parts b (P l) (all-pass P (b && P l) ls h) .0
+
+-- a test that all lines of a text pass
+module _ (P : List ℕ → Bool) (text : List ℕ) (i start : ℕ) where
+  abbrev pub pass : ℕ → ℕ → Bool
+  pass from k = left (λ ok l. ok && P l) text i start true from k
+
+  -- the line that ends here passes it, and so do those after it
+  pub line-passes : i < length text → getD text i 0 ≡ 10 → pass start i ≡ true → (P (between start i text) ≡ true) × (pass (i + 1) (i + 1) ≡ true)
+  line-passes within newline h =
+      let here = P (between start i text) in
+      let after : left (λ ok l. ok && P l) text i start here (i + 1) (i + 1) ≡ true = sym (line-ends (λ ok l. ok && P l) text i start true within newline) ∙ h in
+      let first : here ≡ true = all-pass P here (lines-from (between (i + 1) (i + 1) text) (drop (i + 1) text)) after in
+      (first, ap (λ b. left (λ ok l. ok && P l) text i start b (i + 1) (i + 1)) (sym first) ∙ after)
+
+  pub last-passes : length text ≡ i → start < i → pass start i ≡ true → P (between start i text) ≡ true
+  last-passes end some h = sym (text-ends (λ ok l. ok && P l) text i start true end some) ∙ h

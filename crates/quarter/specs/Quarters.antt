@@ -1,11 +1,12 @@
 -- How a quarter's text is settled.
 use Prim.Native.Nat.{ℕ, min, _+_}
 use mathlib.Core.Path.{_≡_}
-use mathlib.Core.Bool.{Bool, cond}
+use mathlib.Core.Bool.{Bool, true, cond, _&&_}
 use mathlib.Core.List.{List, [], _∷_, _++_}
 use lib.Dec.{eqb}
 use lib.ListN.{length}
 use Rattle.std.specs.Of.Vec.{vec-items}
+use Rattle.std.specs.Results.{isOk}
 use Rattle.std.specs.declared.option.Option.{Option}
 use Rattle.std.specs.declared.option.Option.the-variants.{Some, None}
 use Rattle.std.specs.declared.result.Result.{Result}
@@ -95,6 +96,13 @@ lines-from line (b ∷ bs) = cond (eqb b 10) (line ∷ lines-from [] bs) (lines-
 -- A text is settled line by line.
 abbrev pub settled : List ℕ → Standing
 settled text = folded after-line fresh (lines-from [] text)
+
+-- Each line of a text can be read: none has a fault.
+abbrev pub reads-too : Bool → List ℕ → Bool
+reads-too before line = before && isOk (line-read line)
+
+abbrev pub all-read : List ℕ → Bool
+all-read text = folded reads-too true (lines-from [] text)
 
 -- What was asked of the seat book in some lines, in their order: the client and command of each line that can be read.
 abbrev pub asked : Result (Option Entry) Fault → List (ℕ × List ℕ) → List (ℕ × List ℕ)

@@ -1,11 +1,12 @@
 // A quarter's commands, run on the seat book and noted in the trail.
 ghost use mathlib.Core.Path.{_≡_};
-ghost use mathlib.Core.Bool.{cond};
+ghost use mathlib.Core.Bool.{true, cond};
 ghost use mathlib.Core.List.{[]};
 ghost use Rattle.std.specs.Results.{isOk};
 ghost use Rattle.std.specs.Vec.{made};
 ghost use Rattle.std.specs.shelf.Lists.{folded};
-ghost use Rattle.quarter.specs.Quarters.{standing, fresh, entered, after-line, lines-from, settled, Book-of-requests};
+ghost use Rattle.quarter.specs.Lines.{line-read};
+ghost use Rattle.quarter.specs.Quarters.{standing, fresh, entered, after-line, lines-from, settled, all-read, Book-of-requests};
 use crate::Entry;
 use crate::Fault;
 use crate::FaultDebug;
@@ -75,7 +76,8 @@ impl Quarter {
 
     /// Takes the next line, without its newline. Where there is no memory to note a fault, nothing changes.
     pub fn line(&mut self, line: &[u8]) -> Result<(), AllocError>
-        ensures { λ r. ⌜ standing (now (self .exit)) ≡ cond (isOk r) (after-line (standing (now (self .entry))) (now (line .entry))) (standing (now (self .entry))) ⌝ }
+        ensures stands { λ r. ⌜ standing (now (self .exit)) ≡ cond (isOk r) (after-line (standing (now (self .entry))) (now (line .entry))) (standing (now (self .entry))) ⌝ }
+        ensures succeeds { λ r. ⌜ (isOk (line-read (now (line .entry))) ≡ true → isOk r ≡ true) ⌝ }
     {
         match read_line(line) {
             Ok(Some(entry)) => self.enter(entry),
@@ -95,7 +97,8 @@ impl Quarter {
 
     // Takes the lines of a text, one after the other.
     fn text(&mut self, text: &[u8]) -> Result<(), AllocError>
-        ensures { λ r. ⌜ made r (λ _. standing (now (self .exit)) ≡ folded after-line (standing (now (self .entry))) (lines-from [] (now (text .entry)))) ⌝ }
+        ensures stands { λ r. ⌜ made r (λ _. standing (now (self .exit)) ≡ folded after-line (standing (now (self .entry))) (lines-from [] (now (text .entry)))) ⌝ }
+        ensures succeeds { λ r. ⌜ (all-read (now (text .entry)) ≡ true → isOk r ≡ true) ⌝ }
     {
         let mut start = 0;
         for i in 0..text.len() {
@@ -112,7 +115,8 @@ impl Quarter {
 
     /// Settles a quarter's text, line by line.
     pub fn settle(heap: Global, text: &[u8]) -> Result<Quarter, AllocError>
-        ensures { λ r. ⌜ made r (λ q. standing q ≡ settled (now (text .entry))) ⌝ }
+        ensures stands { λ r. ⌜ made r (λ q. standing q ≡ settled (now (text .entry))) ⌝ }
+        ensures succeeds { λ r. ⌜ (all-read (now (text .entry)) ≡ true → isOk r ≡ true) ⌝ }
     {
         let mut q = Quarter::new(heap);
         q.text(text)?;
