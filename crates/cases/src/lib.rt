@@ -1,4 +1,6 @@
 // Worked cases: proved of the definitions, and run.
+#![tactic(auto)]
+
 ghost use Rattle.cases.specs.Table.{WorkedCases};
 
 // The table of worked cases holds.

@@ -1,4 +1,6 @@
 // Sealed counter devices: each count is given to one record, under a tag that others can check.
+#![tactic(auto)]
+
 mod compare;
 mod counter;
 mod group;

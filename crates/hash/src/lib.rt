@@ -1,4 +1,6 @@
 // SHA-256 and HMAC-SHA-256, each equal to its definition in specs/.
+#![tactic(auto)]
+
 ghost use Rattle.std.specs.Prelude.{◌≤◌};
 
 mod block;

@@ -1,4 +1,6 @@
 // Bytes as hexadecimal text.
+#![tactic(auto)]
+
 ghost use Rattle.std.specs.Prelude.{◌≡◌, ◌<◌, Some};
 ghost use Rattle.hexadecimal.specs.Texts.{hex_digit, hex_text};
 

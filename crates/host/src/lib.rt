@@ -1,4 +1,6 @@
 // What a host written in C calls: numbers and byte buffers in, numbers out.
+#![tactic(auto)]
+
 ghost use Rattle.std.specs.Prelude.{◌≡◌, length, ◌==◌};
 ghost use Rattle.hash.specs.Digest.{sha256 as hash_of};
 ghost use Rattle.hash.specs.Hmac.{hmac as mac_of, kept, tag_under};

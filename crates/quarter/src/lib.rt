@@ -1,5 +1,7 @@
 //! Reads the lines of a quarter's licence commands: `buy PRODUCT AMOUNT`, `take CLIENT PRODUCT` and
 //! `return CLIENT PRODUCT`. A `#` starts a comment.
+#![tactic(auto)]
+
 ghost use Rattle.std.specs.Prelude.{◌≡◌, ◌≤◌, min, length, IfOk, Some};
 ghost use Rattle.std.specs.Option.{option_map};
 ghost use Rattle.std.specs.List.{prefix_len};

@@ -1,4 +1,6 @@
 // Settles a quarter, as seats does, and seals its digest in a record that other hosts can check.
+#![tactic(auto)]
+
 mod seal;
 
 use quarter::Quarter;

@@ -1,4 +1,6 @@
 // Settles a quarter: reads its commands, runs them on the seat book and prints the royalty report.
+#![tactic(auto)]
+
 mod report;
 
 use quarter::Quarter;

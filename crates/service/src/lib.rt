@@ -1,4 +1,6 @@
 // Deterministic services that a replica can run.
+#![tactic(auto)]
+
 mod seats;
 mod service;
 mod trail;

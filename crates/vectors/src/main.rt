@@ -1,4 +1,6 @@
 // Runs published examples of SHA-256 and HMAC-SHA-256, and says of each whether it comes out as published.
+#![tactic(auto)]
+
 use hash::{HashBytes, Hasher, hmac, sha256};
 use hexadecimal::Hex;
 

@@ -1,4 +1,6 @@
 // What crosses between hosts: requests, records and refusals, exact to the byte.
+#![tactic(auto)]
+
 mod group;
 mod message;
 mod reader;
