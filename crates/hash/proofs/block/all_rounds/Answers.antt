@@ -23,7 +23,7 @@ loop-j-preserved c =
     let stood : take (8 * j + 16) ws ≡ schedule first ((8 * j + 16) - 16) = ap (λ k. take k ws) at ∙ c.loop-j.invariant.1 ∙ ap (schedule first) (sym before) in (
       c.extend.array_long,
       ap (λ k. take k c.extend.new.ws) end ∙ c.extend.ensures first stood ∙ ap (schedule first) after,
-      c.eight-rounds-s.ensures all c.args.start same c.loop-j.invariant.2 ∙ ap (rounds all c.args.start) n,
+      c.eight_rounds-s.ensures all c.args.start same c.loop-j.invariant.2 ∙ ap (rounds all c.args.start) n,
     )
 
 pub returns : goal.returns
@@ -36,5 +36,5 @@ returns c =
     let n : 8 * c.loop-j.j ≡ 48 = omega arith in
     let stood : take 64 ws ≡ schedule first 48 = ap (λ k. take (16 + k) ws) (sym n) ∙ c.loop-j.invariant.1 ∙ ap (schedule first) n in
     let at : c.loop-j.s ≡ rounds all start 48 = c.loop-j.invariant.2 ∙ ap (rounds all start) n in
-    let more = c.eight-rounds-t.ensures all start (stands_so_far ws first 48 56 short (omega arith) (omega arith) stood) at in
-    c.eight-rounds.ensures all start (stands_so_far ws first 48 64 short (omega arith) (omega arith) stood) more
+    let more = c.eight_rounds-t.ensures all start (stands_so_far ws first 48 56 short (omega arith) (omega arith) stood) at in
+    c.eight_rounds.ensures all start (stands_so_far ws first 48 64 short (omega arith) (omega arith) stood) more

@@ -12,8 +12,8 @@ pub loop-i-preserved : goal.loop-i-preserved
 loop-i-preserved c =
     let i = c.loop-i.i in
     let bs = c.args.block.now in
-    let v = c.from-be-bytes.result in
-    let w : v ≡ number_at 4 bs (4 * i) = grind (arith, c.from-be-bytes.ensures) in
+    let v = c.from_be_bytes.result in
+    let w : v ≡ number_at 4 bs (4 * i) = grind (arith, c.from_be_bytes.ensures) in
     let e : words bs (i + 1) ≡ take i c.loop-i.ws ++ v ∷ [] = words_more bs i ∙ rw (sym c.loop-i.invariant.1, sym w) in
     (length-set c.loop-i.ws i v ∙ c.loop-i.invariant.0, take_more_set c.loop-i.ws i v (omega arith) ∙ sym e)
 

@@ -8,7 +8,7 @@ use Rattle.hash.proofs.Taking.{took_all}
 use Rattle.hash.proofs.sha.hash_from.Goals as goal
 
 -- the code is at the end of a hasher that has taken the rest
-closed : (c : goal.After-bytes-of) → c.bytes-of.result ≡ bytes_of (after_all c.args.state (c.args.rest.now ++ padding (c.args.before + length c.args.rest.now)))
+closed : (c : goal.After-bytes_of) → c.bytes_of.result ≡ bytes_of (after_all c.args.state (c.args.rest.now ++ padding (c.args.before + length c.args.rest.now)))
 closed c =
     let rest = c.args.rest.now in
     let before = c.args.before in
@@ -24,7 +24,7 @@ closed c =
     let part : take (n - (n - n % 64)) (drop (n - n % 64) rest) ≡ take (len % 64) left =
     ap (λ k. take (n - k) (drop k rest)) at ∙ take_all (n - 64 * (n / 64)) left (omega arith) ∙ sym (take_all (len % 64) left (omega (arith, c.requires)))
     in
-    c.bytes-of.ensures ∙ ap bytes_of (c.close.ensures ∙ ap (λ t. after_all c.absorb.result (t ++ padding len)) part ∙ took_all c.args.state before h rest took)
+    c.bytes_of.ensures ∙ ap bytes_of (c.close.ensures ∙ ap (λ t. after_all c.absorb.result (t ++ padding len)) part ∙ took_all c.args.state before h rest took)
 
 pub returns : goal.returns
 unfolding resumed sha256

@@ -7,5 +7,5 @@ pub returns : goal.returns
 returns c =
     let out = c.args.out.now in
     let n = length c.args.tail.now in
-    let zero : (k d : ℕ) → k < length out → get_or out k d ≡ 0 = λ k d h. ap (λ xs. get_or xs k d) c.requires.1 ∙ get_or-replicate (length out) k 0 d h in
+    let zero : (k d : ℕ) → k < length out → get_or out k d ≡ 0 = λ k d h. ap (λ xs. get_or xs k d) c.requires.out_value ∙ get_or-replicate (length out) k 0 d h in
     same_lists _ _ (search (rules, places)) (λ k d h. grind (arith, places, get_or-set_same, get_or-set_other, cases_eq k n, zero (n + (k - n)) d))

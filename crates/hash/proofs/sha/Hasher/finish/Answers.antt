@@ -7,5 +7,5 @@ use Rattle.hash.proofs.sha.Hasher.finish.Goals as goal
 pub returns : goal.returns
 unfolding sha256
 returns c m took =
-    c.bytes-of.ensures ∙ ap bytes_of (c.last-value.ensures ∙ took_all initial 0 c.args.self m took)
+    c.bytes_of.ensures ∙ ap bytes_of (c.last_value.ensures ∙ took_all initial 0 c.args.self m took)
     ∙ ap (λ n. bytes_of (after_all initial (m ++ padding n))) (omega arith)

@@ -11,7 +11,7 @@ returns-then-used-n c s before m took =
     let whole : (m ++ take used bs) ++ part ≡ m ++ bs =
     append_assoc m (take used bs) part ∙ ap (λ l. m ++ (take used bs ++ l)) (take_rest bs used) ∙ ap (λ l. m ++ l) (take-append-drop used bs)
     in
-    subst (λ (l : List ℕ). Took s before c.take-blocks.new.self l) whole (c.take-blocks.ensures s before (m ++ take used bs) (c.fill-used.ensures.takes s before m took))
+    subst (λ (l : List ℕ). Took s before c.take_blocks.new.self l) whole (c.take_blocks.ensures s before (m ++ take used bs) (c.fill-used.ensures.takes s before m took))
 
 pub returns-else-used-n : goal.returns-else-used-n
 returns-else-used-n c s before m took =
