@@ -16,10 +16,10 @@ loop-b-preserved g c = λ plain.
     let before = c.loop-b.invariant plain in
     let after = c.in_ok-write.ensures.writes before.plain (refl {a = true}) in
     let high = c.hex_digit-high.ensures in
-    let low = c.hex-digit-low.ensures in
+    let low = c.hex_digit-low.ensures in
     let more = ap (λ t. hex_text (take i bs) ++ t) (pair _ _ (get_or bs i 0) high.ascii low.ascii high.value low.value) in
     let all = flat_map_more hex_pair [] (take i bs) (get_or bs i 0) ∙ ap hex_text (sym (take_more bs i 0 c.loop-b-test.true)) in
-    let two = encode c.hex_digit-high.result ++ encode c.hex-digit-low.result in
+    let two = encode c.hex_digit-high.result ++ encode c.hex_digit-low.result in
     let took = g.W.Write.write_str_gives in
     let f = c.args.f.now in
     let f' = c.write.new.self in
