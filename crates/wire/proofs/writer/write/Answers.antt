@@ -2,4 +2,4 @@ use Rattle.wire.proofs.Reading.{written_is_read}
 use Rattle.wire.proofs.writer.write.Goals as goal
 
 pub returns : goal.returns
-returns c = record { value = c.put-record.ensures.value; bytes = c.put-record.ensures.bytes; written_is_read = written_is_read }
+returns c = record { value = c.put_record.ensures.value; bytes = c.put_record.ensures.bytes; written_is_read = written_is_read }
