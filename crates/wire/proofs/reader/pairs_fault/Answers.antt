@@ -17,8 +17,8 @@ judged n at least ps i x y h ex ey =
     ∙ ap (λ b. field at b (field (at + 1) (ltb 0 (get_or ps i none).count) (pairs_fault n (at + 5) ((get_or ps i none).replica + 1) (drop (i + 1) ps)))) ex
     ∙ ap (λ b. field at x (field (at + 1) b (pairs_fault n (at + 5) ((get_or ps i none).replica + 1) (drop (i + 1) ps)))) ey
 
-pub returns-then-not-good-replica : goal.returns-then-not-good-replica
-returns-then-not-good-replica c =
+pub returns-then-not-good_replica : goal.returns-then-not-good_replica
+returns-then-not-good_replica c =
     let i = c.loop-pair.pair-index in
     let ps = c.args.pairs.now in
     let x : good_replica c.args.size c.loop-pair.least (get_or ps i none).replica ≡ false = rw (sym c.from-replica.ensures) (cc) in

@@ -14,10 +14,10 @@ returns-in-Checkpoint c =
 
 pub returns-in-ViewChange : goal.returns-in-ViewChange
 returns-in-ViewChange c =
-    laid 8 12 c.put-in-ViewChange.ensures c.put_u32-in-ViewChange.ensures c.vouch-bytes-in-ViewChange.ensures
+    laid 8 12 c.put-in-ViewChange.ensures c.put_u32-in-ViewChange.ensures c.vouch_bytes-in-ViewChange.ensures
     ∙ sym (ap (λ b. replicate 8 0 ++ body_bytes b) c.in-ViewChange.is)
 
 pub returns-in-NewView : goal.returns-in-NewView
 returns-in-NewView c =
-    laid 20 12 c.put-in-NewView.ensures c.put_u32-in-NewView.ensures c.pairs-bytes.ensures
+    laid 20 12 c.put-in-NewView.ensures c.put_u32-in-NewView.ensures c.pairs_bytes.ensures
     ∙ sym (ap (λ b. replicate 8 0 ++ body_bytes b) c.in-NewView.is)

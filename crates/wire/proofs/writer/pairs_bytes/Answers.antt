@@ -11,6 +11,6 @@ returns c =
     let ps = c.args.pairs.now in
     let first = laid 5 0 {was = replicate 20 0} c.put.ensures refl c.pair_bytes.ensures in
     let second = laid 5 5 c.put-2.ensures first c.pair_bytes-2.ensures in
-    let third = laid 5 10 c.put-3.ensures second c.pair-bytes-3.ensures in
-    laid 5 15 c.put-4.ensures third c.pair-bytes-4.ensures
+    let third = laid 5 10 c.put-3.ensures second c.pair_bytes-3.ensures in
+    laid 5 15 c.put-4.ensures third c.pair_bytes-4.ensures
     ∙ sym (ap (flat_map pair_bytes) (fill_by_all (λ k. get_or ps k no_pair) ps 4 no_pair c.told-pairs (λ k h. refl)))
