@@ -7,4 +7,4 @@ pub returns : goal.returns
 returns c =
     let bs = c.args.record.now in
     let tag = c.args.tag.now in
-    c.check-record.ensures ∙ ap (λ b. with_lengths 32 bs tag Err (vouched b (parse c.args.size bs))) (c.new-device.ensures.passing bs tag)
+    c.check_record.ensures ∙ ap (λ b. with_lengths 32 bs tag Err (vouched b (parse c.args.size bs))) (c.new-device.ensures.passing bs tag)

@@ -7,7 +7,7 @@ use Rattle.device.proofs.group.GroupKey.new.Goals as goal
 
 pub returns : goal.returns
 returns c =
-    let e = c.with-key.ensures in
+    let e = c.with_key.ensures in
     let key = c.args.key.now in
     record {
       owner = e.owner;

@@ -11,14 +11,14 @@ pub returns : goal.returns
 returns c =
     let d = c.args.self.now in
     let bs = c.stamp.new.record in
-    let tag = c.copy-from-slice.new.self in
+    let tag = c.copy_from_slice.new.self in
     let none : make_refusal d.counter.made d.counter.last 32 c.args.record.now c.args.tag.now ≡ None =
-    ap (λ w. make_refusal d.counter.made d.counter.last w c.args.record.now c.args.tag.now) (sym c.tag-len.ensures) ∙ sym c.in-default.ensures in
-    let is : tag ≡ tag_under d.key bs = c.copy-from-slice.ensures.after ∙ c.tag.ensures.value in
+    ap (λ w. make_refusal d.counter.made d.counter.last w c.args.record.now c.args.tag.now) (sym c.tag_len.ensures) ∙ sym c.in_default.ensures in
+    let is : tag ≡ tag_under d.key bs = c.copy_from_slice.ensures.after ∙ c.tag.ensures.value in
     let kept = c.stamp.ensures.kept in
     let m = makes d.counter.made d.counter.last 32 c.args.record.now c.args.tag.now none in
     let inside = d.counter.inside (omega (arith, d.counter.within, m.left)) in
-    let may = may_pass_stamped d.counter.size d.counter.owner (d.counter.made + 1) 32 c.args.record.now bs tag inside m.long c.stamp.ensures.recorded (c.copy-from-slice.ensures.len ∙ m.wide) in
+    let may = may_pass_stamped d.counter.size d.counter.owner (d.counter.made + 1) 32 c.args.record.now bs tag inside m.long c.stamp.ensures.recorded (c.copy_from_slice.ensures.len ∙ m.wide) in
     record {
       answer = sym (ap answered none);
       recorded = made_new _ c.args.record.now none c.stamp.ensures.recorded;

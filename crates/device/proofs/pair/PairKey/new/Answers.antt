@@ -9,11 +9,11 @@ use Rattle.device.proofs.pair.PairKey.new.Goals as goal
 
 pub returns : goal.returns
 returns c =
-    let e = c.with-keys.ensures in
+    let e = c.with_keys.ensures in
     let n = c.args.size in
     let o = c.args.owner in
     let keys = c.args.keys.now in
-    let d : PairKey = c.with-keys.result in
+    let d : PairKey = c.with_keys.result in
     let each : (bs : List ℕ) (r : ℕ) → r < 7 → kept_tag d bs r ≡ hmac (shared_key keys r) bs =
     λ bs r h. ap (λ ks. tag_under (get_or ks r (record { inner = no_words; outer = no_words })) bs) (e.keys ∙ c.hashed.ensures) ∙ kept_is keys bs r c.told-keys h in
     record {

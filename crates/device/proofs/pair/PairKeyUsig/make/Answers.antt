@@ -12,14 +12,14 @@ pub returns : goal.returns
 returns c =
     let d = c.args.self.now in
     let bs = c.stamp.new.record in
-    let tag = c.write-tag.new.tag in
+    let tag = c.write_tag.new.tag in
     let none : make_refusal d.counter.made d.counter.last 224 c.args.record.now c.args.tag.now ≡ None =
-    ap (λ w. make_refusal d.counter.made d.counter.last w c.args.record.now c.args.tag.now) (sym c.tag-len.ensures) ∙ sym c.in-default.ensures in
+    ap (λ w. make_refusal d.counter.made d.counter.last w c.args.record.now c.args.tag.now) (sym c.tag_len.ensures) ∙ sym c.in_default.ensures in
     let kept = c.stamp.ensures.kept in
     let m = makes d.counter.made d.counter.last 224 c.args.record.now c.args.tag.now none in
     let o = d.counter.owner in
     let inside = d.counter.inside (omega (arith, d.counter.within, m.left)) in
-    let is : tag ≡ whole_tag d.counter.size (kept_tag d bs) = c.write-tag.ensures ∙ ap (λ n. whole_tag n (kept_tag d bs)) kept.0 in
+    let is : tag ≡ whole_tag d.counter.size (kept_tag d bs) = c.write_tag.ensures ∙ ap (λ n. whole_tag n (kept_tag d bs)) kept.0 in
     let wide : (r : ℕ) → length (kept_tag d bs r) ≡ 32 = λ r. tag_length _ bs in
     let may = may_pass_stamped d.counter.size o (d.counter.made + 1) 224 c.args.record.now bs tag inside m.long c.stamp.ensures.recorded (ap length is ∙ length_whole d.counter.size (kept_tag d bs) wide) in
     let sender : sender_of bs ≡ o = ap sender_of c.stamp.ensures.recorded ∙ stamped_sender c.args.record.now o (d.counter.made + 1) m.long in
