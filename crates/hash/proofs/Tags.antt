@@ -3,7 +3,7 @@ use Rattle.std.proofs.lemmas.List.{append_assoc, length-append, length-map, leng
 use Rattle.std.proofs.lemmas.Bool.{leb-true, cond_both}
 use Rattle.hash.specs.Compression.{compressed}
 use Rattle.hash.specs.Constants.{initial}
-use Rattle.hash.specs.Digest.{padding, block, after_blocks, after_all, bytes_of, sha256, resumed}
+use Rattle.hash.specs.Digest.{padding, after_blocks, after_all, bytes_of, sha256, resumed}
 use Rattle.hash.specs.Hmac.{filled, block_key, mixed, hmac, TagsAsKey}
 use Rattle.hash.proofs.Blocks.{after_more, after_rest}
 

@@ -1,5 +1,5 @@
 -- Reading what was written gives the message.
-use Rattle.std.proofs.Common.{◌≡◌, ℕ, ◌+◌, ◌-◌, ◌^◌, ◌<◌, true, ltb, List, [], ◌∷◌, ◌++◌, length, take, drop, replicate, Some, None, Ok, refl, ap, ◌∙◌, arith, length-append, ltb-true}
+use Rattle.std.proofs.Common.{◌≡◌, ℕ, ◌^◌, ◌<◌, true, ltb, List, [], ◌∷◌, ◌++◌, length, take, drop, replicate, Some, None, Ok, refl, ap, ◌∙◌, arith, length-append, ltb-true}
 use Rattle.std.specs.List.{flat_map}
 use Rattle.std.proofs.lemmas.List.{take_at, drop_at}
 use Rattle.wire.specs.Forms.{unnamed_fault, body_fault, named_end, body_at}

@@ -1,11 +1,10 @@
 -- The same of requests.
-use Rattle.std.proofs.Common.{◌≡◌, eqb, ltb, [], ◌++◌, length, drop, sym, refl, ap, ◌∙◌, subst, arith, ltb-true, eq-eqb, eqb-true}
-use Rattle.std.proofs.lemmas.List.{append-nil, drop_all, length-drop, length-take-le}
+use Rattle.std.proofs.Common.{◌≡◌, eqb, ltb, [], ◌++◌, length, sym, refl, ap, ◌∙◌, subst, arith, ltb-true, eq-eqb, eqb-true}
+use Rattle.std.proofs.lemmas.List.{append-nil, drop_all}
 use Rattle.wire.specs.Forms.{request_fault, unless_fault}
 use Rattle.wire.specs.Laws.{RightRequest, WrittenRequestIsRead, ReadRequestIsWritten}
 use Rattle.wire.specs.Messages.{request_bytes, request_at}
 use Rattle.wire.proofs.Accepted.{field_good, unless_good, cond_good}
-use Rattle.wire.proofs.Numbers.{number_below}
 use Rattle.wire.proofs.Reading.{request_read}
 use Rattle.wire.proofs.Writing.{request_there, request_fits}
 

@@ -3,7 +3,6 @@ use Rattle.hash.specs.Bytes.{big_endian, number_at}
 use Rattle.std.specs.List.{flat_map}
 use Rattle.wire.specs.declared.message.Body.{Body}
 use Rattle.wire.specs.declared.message.Body.TheVariants as kinds
-use Rattle.wire.specs.declared.message.Checkpoint.{Checkpoint}
 use Rattle.wire.specs.declared.message.Digest.{Digest}
 use Rattle.wire.specs.declared.message.Message.{Message}
 use Rattle.wire.specs.declared.message.Pair.{Pair}
