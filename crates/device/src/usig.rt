@@ -17,14 +17,6 @@ pub trait Usig {
 
     ghost passes: { Self → List ℕ → List ℕ → Bool };
 
-    ghost owner_fits: { (d : Self) → owner d < 256 };
-
-    ghost made_within: { (d : Self) → made d ≤ last d };
-
-    ghost last_fits: { (d : Self) → last d < 2 ^ 32 };
-
-    ghost right_lengths: { (d : Self) (bs tag : List ℕ) → passes d bs tag ≡ true → (length bs ≡ 48) × (length tag ≡ width d) };
-
     fn owner(&self) -> u8
         ensures { result ≡ owner self.now };
 
@@ -49,6 +41,15 @@ pub trait Usig {
     // Whether a record and a tag pass here.
     fn check(&self, record: &[u8], tag: &[u8]) -> bool
         ensures { result ≡ passes self.now «record».now tag.now };
+
+    // The laws of every kind.
+    ghost owner_fits: { (d : Self) → owner d < 256 };
+
+    ghost made_within: { (d : Self) → made d ≤ last d };
+
+    ghost last_fits: { (d : Self) → last d < 2 ^ 32 };
+
+    ghost right_lengths: { (d : Self) (bs tag : List ℕ) → passes d bs tag ≡ true → (length bs ≡ 48) × (length tag ≡ width d) };
 }
 
 // Checks a record and its tag at a device of a group: lengths, form, and whether the pair passes.
