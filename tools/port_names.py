@@ -5,8 +5,8 @@ usage: python3 tools/port_names.py [--write]    at the top, once, after the tool
 
 A name is taken from where it is declared, in specs/ and proofs/. It is respelled wherever it stands as a whole
 word in a proof file or in the clauses of src/; text in quotes and comments of src/ stay. The dash after `length`
-joins two names, and stays too. Names that would fall together with another of their file are listed, and nothing
-is written without --write: a definition and the function of src/ that it speaks of may have one name.
+joins two names, and stays too. Names that would fall together with another of their file are listed; where there
+are any, nothing is written but with --write: a definition and the function of src/ that it speaks of may have one name.
 The crate hex, whose name a library of the toolchain has, becomes hexadecimal.
 """
 

@@ -32,12 +32,12 @@ unfolding hmac sha256
 hmac_length key text = refl
 
 module _ (n : ℕ) (tags : ℕ → List ℕ) (wide : (r : ℕ) → length (tags r) ≡ 32) where
-  length_part : (r : ℕ) → length (part n tags r) ≡ 32
-  length_part r = elim (ltb r n) as (λ b. length (cond b (tags r) (replicate 32 0)) ≡ 32) [ true ↦ wide r | false ↦ refl ]
+  length-part : (r : ℕ) → length (part n tags r) ≡ 32
+  length-part r = elim (ltb r n) as (λ b. length (cond b (tags r) (replicate 32 0)) ≡ 32) [ true ↦ wide r | false ↦ refl ]
 
   length-parts : (k : ℕ) → length (parts n tags k) ≡ 32 * k
   length-parts zero = refl
-  length-parts (suc k) = length-append (parts n tags k) (part n tags k) ∙ omega (arith, length-parts k, length_part k)
+  length-parts (suc k) = length-append (parts n tags k) (part n tags k) ∙ omega (arith, length-parts k, length-part k)
 
   -- the part that is for a replica is the one that was written for it
   part_for_parts : (k r : ℕ) → r < k → part_for r (parts n tags k) ≡ part n tags r
@@ -51,7 +51,7 @@ module _ (n : ℕ) (tags : ℕ → List ℕ) (wide : (r : ℕ) → length (tags 
       ∙ take-append-le 32 (drop (32 * r) front) last (omega (arith, length-drop (32 * r) front)) ∙ part_for_parts k r lt)
       (λ ge. let e : r ≡ k = omega arith in
       subst (λ j. part_for j (front ++ last) ≡ part n tags j) (sym e)
-      (ap (take 32) (drop_at front last (32 * k) long) ∙ take_all 32 last (omega (arith, length_part k))))
+      (ap (take 32) (drop_at front last (32 * k) long) ∙ take_all 32 last (omega (arith, length-part k))))
       (cases_lt r k)
 
   -- and for a member that is its tag
@@ -59,14 +59,14 @@ module _ (n : ℕ) (tags : ℕ → List ℕ) (wide : (r : ℕ) → length (tags 
   part_for_member r m =
       let b = member_below n r m in part_for_parts 7 r (omega arith) ∙ ap (λ t. cond t (tags r) (replicate 32 0)) (lt-ltb r n b.0)
 
-  pub length_whole : length (whole_tag n tags) ≡ 224
-  length_whole = length-parts 7
+  pub length-whole : length (whole_tag n tags) ≡ 224
+  length-whole = length-parts 7
 
 pub passes_at_partner : PassesAtPartner
 passes_at_partner n maker reader keys others bs mm mr long is same =
     let tags : ℕ → List ℕ = λ r. hmac (shared_key keys r) bs in
     let tag = pair_tag n keys bs in
-    let may = may_pass_where n reader 224 bs tag mr long (length_whole n tags (λ r. hmac_length (shared_key keys r) bs)) (ap (member n) is ∙ mm) in
+    let may = may_pass_where n reader 224 bs tag mr long (length-whole n tags (λ r. hmac_length (shared_key keys r) bs)) (ap (member n) is ∙ mm) in
     let there : part_for reader tag ≡ hmac (shared_key others (sender_of bs)) bs =
     part_for_member n tags (λ r. hmac_length (shared_key keys r) bs) reader mr ∙ ap (λ k. hmac k bs) (same ∙ ap (shared_key others) (sym is)) in
     ap (λ b. b && same_bytes (part_for reader tag) (hmac (shared_key others (sender_of bs)) bs)) may ∙ ap (λ p. same_bytes p (hmac (shared_key others (sender_of bs)) bs)) there

@@ -3,7 +3,7 @@ use Rattle.device.specs.Keys.{same_bytes, sender_of, may_pass}
 use Rattle.device.specs.Makes.{make_refusal, answered}
 use Rattle.device.specs.Pairs.{whole_tag, part_for, kept_tag}
 use Rattle.device.proofs.Checks.{makes, made_new}
-use Rattle.device.proofs.Parts.{part_for_member, tag_length, length_whole}
+use Rattle.device.proofs.Parts.{part_for_member, tag_length, length-whole}
 use Rattle.device.proofs.Same.{same_self}
 use Rattle.device.proofs.Stamps.{stamped_sender, may_pass_stamped}
 use Rattle.device.proofs.pair.PairKeyUsig.make.Goals as goal
@@ -21,7 +21,7 @@ returns c =
     let inside = d.counter.inside (omega (arith, d.counter.within, m.left)) in
     let is : tag ≡ whole_tag d.counter.size (kept_tag d bs) = c.write_tag.ensures ∙ ap (λ n. whole_tag n (kept_tag d bs)) kept.0 in
     let wide : (r : ℕ) → length (kept_tag d bs r) ≡ 32 = λ r. tag_length _ bs in
-    let may = may_pass_stamped d.counter.size o (d.counter.made + 1) 224 c.args.record.now bs tag inside m.long c.stamp.ensures.recorded (ap length is ∙ length_whole d.counter.size (kept_tag d bs) wide) in
+    let may = may_pass_stamped d.counter.size o (d.counter.made + 1) 224 c.args.record.now bs tag inside m.long c.stamp.ensures.recorded (ap length is ∙ length-whole d.counter.size (kept_tag d bs) wide) in
     let sender : sender_of bs ≡ o = ap sender_of c.stamp.ensures.recorded ∙ stamped_sender c.args.record.now o (d.counter.made + 1) m.long in
     let own : part_for o tag ≡ kept_tag d bs (sender_of bs) =
     ap (part_for o) is ∙ part_for_member d.counter.size (kept_tag d bs) wide o inside ∙ ap (kept_tag d bs) (sym sender) in
