@@ -9,10 +9,13 @@ unfoldable pub words : List ℕ → ℕ → List ℕ
 words block zero = []
 words block (suc n) = words block n ++ number_at 4 block (4 * n) ∷ []
 
+-- A word from those that stand 2, 7, 15 and 16 places before it.
+abbrev pub word_from : ℕ → ℕ → ℕ → ℕ → ℕ
+word_from w2 w7 w15 w16 = plus (plus (plus (small_sigma1 w2) w7) (small_sigma0 w15)) w16
+
 -- The word that follows i words of a schedule.
 unfoldable pub next_word : List ℕ → ℕ → ℕ
-next_word ws i =
-    plus (plus (plus (small_sigma1 (slice_index ws (i - 2))) (slice_index ws (i - 7))) (small_sigma0 (slice_index ws (i - 15)))) (slice_index ws (i - 16))
+next_word ws i = word_from (slice_index ws (i - 2)) (slice_index ws (i - 7)) (slice_index ws (i - 15)) (slice_index ws (i - 16))
 
 -- The schedule: sixteen words, and n more.
 unfoldable pub schedule : List ℕ → ℕ → List ℕ

@@ -26,14 +26,21 @@ ch x y z = bit_xor (bit_and x y) (bit_and (complement x) z)
 abbrev pub maj : ℕ → ℕ → ℕ → ℕ
 maj x y z = bit_xor (bit_xor (bit_and x y) (bit_and x z)) (bit_and y z)
 
+-- The other four: three rotations, or two and a shift, mixed.
+abbrev pub rotations : ℕ → ℕ → ℕ → ℕ → ℕ
+rotations a b c x = bit_xor (bit_xor (rotr a x) (rotr b x)) (rotr c x)
+
+abbrev pub rotations_and_shift : ℕ → ℕ → ℕ → ℕ → ℕ
+rotations_and_shift a b c x = bit_xor (bit_xor (rotr a x) (rotr b x)) (shr c x)
+
 abbrev pub big_sigma0 : ℕ → ℕ
-big_sigma0 x = bit_xor (bit_xor (rotr 2 x) (rotr 13 x)) (rotr 22 x)
+big_sigma0 x = rotations 2 13 22 x
 
 abbrev pub big_sigma1 : ℕ → ℕ
-big_sigma1 x = bit_xor (bit_xor (rotr 6 x) (rotr 11 x)) (rotr 25 x)
+big_sigma1 x = rotations 6 11 25 x
 
 abbrev pub small_sigma0 : ℕ → ℕ
-small_sigma0 x = bit_xor (bit_xor (rotr 7 x) (rotr 18 x)) (shr 3 x)
+small_sigma0 x = rotations_and_shift 7 18 3 x
 
 abbrev pub small_sigma1 : ℕ → ℕ
-small_sigma1 x = bit_xor (bit_xor (rotr 17 x) (rotr 19 x)) (shr 10 x)
+small_sigma1 x = rotations_and_shift 17 19 10 x

@@ -1,9 +1,11 @@
 // One block of SHA-256: its schedule and its 64 rounds.
-ghost use Rattle.std.specs.Prelude.{◌≡◌, ℕ, ◌+◌, ◌-◌, ◌≤◌, List, length, take};
-ghost use Rattle.hash.specs.Compression.{words, schedule, round, rounds, added, compressed};
+ghost use Rattle.std.specs.Prelude.{◌≡◌, ℕ, ◌+◌, ◌-◌, ◌<◌, ◌≤◌, List, length, take};
+ghost use Rattle.hash.specs.Compression.{words, word_from, schedule, round, rounds, added, compressed};
 ghost use Rattle.hash.specs.Constants.{initial};
 ghost use Rattle.hash.specs.Digest.{bytes_of as digest_bytes};
-ghost use Rattle.hash.specs.Words.{ch as chosen, maj as most, big_sigma0, big_sigma1, small_sigma0, small_sigma1};
+ghost use Rattle.hash.specs.Words.{ch as chosen, maj as most, rotations, rotations_and_shift};
+
+use std::ops::Add;
 
 const K: [u32; 64] = [
     0x428a2f98, 0x71374491, 0xb5c0fbcf, 0xe9b5dba5, 0x3956c25b, 0x59f111f1, 0x923f82a4, 0xab1c5ed5,
@@ -18,6 +20,9 @@ const K: [u32; 64] = [
 
 // The bytes of a hash or a tag.
 pub type HashBytes = [u8; 32];
+
+// The bytes that are hashed at once.
+pub(crate) type Block = [u8; 64];
 
 // Eight words: a hash value, or the working variables of the rounds.
 #[repr(C)]
@@ -46,28 +51,20 @@ fn maj(x: u32, y: u32, z: u32) -> u32
     (x & y) ^ (x & z) ^ (y & z)
 }
 
-fn sum0(x: u32) -> u32
-    ensures { result ≡ big_sigma0 x }
+// Three rotations of a word, mixed.
+fn big_sigma<const A: u32, const B: u32, const C: u32>(x: u32) -> u32
+    requires { (0 < A) × (A < 32) × (0 < B) × (B < 32) × (0 < C) × (C < 32) }
+    ensures { result ≡ rotations A B C x }
 {
-    x.rotate_right(2) ^ x.rotate_right(13) ^ x.rotate_right(22)
+    x.rotate_right(A) ^ x.rotate_right(B) ^ x.rotate_right(C)
 }
 
-fn sum1(x: u32) -> u32
-    ensures { result ≡ big_sigma1 x }
+// Two rotations of a word and a shift, mixed.
+fn small_sigma<const A: u32, const B: u32, const C: u32>(x: u32) -> u32
+    requires { (0 < A) × (A < 32) × (0 < B) × (B < 32) × (C < 32) }
+    ensures { result ≡ rotations_and_shift A B C x }
 {
-    x.rotate_right(6) ^ x.rotate_right(11) ^ x.rotate_right(25)
-}
-
-fn sigma0(x: u32) -> u32
-    ensures { result ≡ small_sigma0 x }
-{
-    x.rotate_right(7) ^ x.rotate_right(18) ^ (x >> 3)
-}
-
-fn sigma1(x: u32) -> u32
-    ensures { result ≡ small_sigma1 x }
-{
-    x.rotate_right(17) ^ x.rotate_right(19) ^ (x >> 10)
+    x.rotate_right(A) ^ x.rotate_right(B) ^ (x >> C)
 }
 
 impl Words {
@@ -77,11 +74,11 @@ impl Words {
     {
         let t1 = self
             .h
-            .wrapping_add(sum1(self.e))
+            .wrapping_add(big_sigma::<6, 11, 25>(self.e))
             .wrapping_add(ch(self.e, self.f, self.g))
             .wrapping_add(k)
             .wrapping_add(w);
-        let t2 = sum0(self.a).wrapping_add(maj(self.a, self.b, self.c));
+        let t2 = big_sigma::<2, 13, 22>(self.a).wrapping_add(maj(self.a, self.b, self.c));
         Words {
             a: t1.wrapping_add(t2),
             b: self.a,
@@ -94,25 +91,27 @@ impl Words {
         }
     }
 
-    // Eight rounds, from the round i on. Written out, they move no word from one variable to the next.
+    // Eight rounds, from the round i on. As many are unrolled, and then no word moves from one variable to the next.
+    // The whole schedule is handed over with the place, since what follows those eight words is not made yet.
     fn eight_rounds(self, ws: &[u32; 64], i: usize) -> Words
         requires { i + 8 ≤ 64 }
         ensures { (all : List ℕ) (start : Words) → take (i + 8) ws.now ≡ take (i + 8) all → self ≡ rounds all start i → result ≡ rounds all start (i + 8) }
     {
-        let s1 = self.round(K[i], ws[i]);
-        let s2 = s1.round(K[i + 1], ws[i + 1]);
-        let s3 = s2.round(K[i + 2], ws[i + 2]);
-        let s4 = s3.round(K[i + 3], ws[i + 3]);
-        let s5 = s4.round(K[i + 4], ws[i + 4]);
-        let s6 = s5.round(K[i + 5], ws[i + 5]);
-        let s7 = s6.round(K[i + 6], ws[i + 6]);
-        s7.round(K[i + 7], ws[i + 7])
+        let mut s = self;
+        for (k, w) in K[i..i + 8].iter().zip(&ws[i..i + 8]) {
+            s = s.round(*k, *w);
+        }
+        s
     }
+}
 
-    // Word by word addition.
-    fn add(self, other: Words) -> Words
-        ensures { result ≡ added self other }
-    {
+// Word by word.
+impl Add for Words {
+    type Output = Words;
+
+    ghost add_gives = { λ s t r. r ≡ added s t };
+
+    fn add(self, other: Words) -> Words {
         Words {
             a: self.a.wrapping_add(other.a),
             b: self.b.wrapping_add(other.b),
@@ -127,14 +126,24 @@ impl Words {
 }
 
 // The words of a block, at the front of a schedule.
-fn load(block: &[u8], ws: &mut [u32; 64])
-    requires { length block.now ≡ 64 }
+fn load(block: &Block, ws: &mut [u32; 64])
     ensures { take 16 ws.new ≡ words block.now 16 }
 {
-    for i in 0..16 {
-        let at = 4 * i;
-        ws[i] = u32::from_be_bytes([block[at], block[at + 1], block[at + 2], block[at + 3]]);
+    let (fours, _) = block.as_chunks();
+    // By index on one side: a zip with `iter_mut` was tried, and what the schedule ends as stayed unproved.
+    for (i, four) in fours.iter().enumerate() {
+        ws[i] = u32::from_be_bytes(*four);
     }
+}
+
+// A word of a schedule from those that stand 2, 7, 15 and 16 places before it.
+fn word_from(w2: u32, w7: u32, w15: u32, w16: u32) -> u32
+    ensures { result ≡ word_from w2 w7 w15 w16 }
+{
+    small_sigma::<17, 19, 10>(w2)
+        .wrapping_add(w7)
+        .wrapping_add(small_sigma::<7, 18, 3>(w15))
+        .wrapping_add(w16)
 }
 
 // Eight words more of a schedule that stands so far.
@@ -142,15 +151,14 @@ fn extend(ws: &mut [u32; 64], from: usize)
     requires { (16 ≤ from) × (from + 8 ≤ 64) }
     ensures { (first : List ℕ) → take from ws.old ≡ schedule first (from - 16) → take (from + 8) ws.new ≡ schedule first (from - 8) }
 {
+    // By index, since each word is made from earlier ones of the same array.
     for i in from..from + 8 {
-        ws[i] = sigma1(ws[i - 2])
-            .wrapping_add(ws[i - 7])
-            .wrapping_add(sigma0(ws[i - 15]))
-            .wrapping_add(ws[i - 16]);
+        ws[i] = word_from(ws[i - 2], ws[i - 7], ws[i - 15], ws[i - 16]);
     }
 }
 
-// All rounds over a block's sixteen words. The schedule is made between the rounds, so that the two overlap.
+// All rounds over a block's sixteen words. The schedule is made between the rounds, so that the two overlap:
+// one loop over the whole schedule is plainer, and takes a fifth more time.
 fn all_rounds(start: Words, ws: &mut [u32; 64]) -> Words
     ensures { result ≡ rounds (schedule (take 16 ws.old) 48) start 64 }
 {
@@ -164,32 +172,24 @@ fn all_rounds(start: Words, ws: &mut [u32; 64]) -> Words
 }
 
 // The hash value after one more block.
-pub(crate) fn compress(start: Words, block: &[u8]) -> Words
-    requires { length block.now ≡ 64 }
+pub(crate) fn compress(start: Words, block: &Block) -> Words
     ensures { result ≡ compressed start block.now }
 {
     let mut ws = [0u32; 64];
     load(block, &mut ws);
-    start.add(all_rounds(start, &mut ws))
+    start + all_rounds(start, &mut ws)
 }
 
 // The 32 bytes of a hash value.
 pub(crate) fn bytes_of(s: Words) -> HashBytes
     ensures { result ≡ digest_bytes s }
 {
-    let a = s.a.to_be_bytes();
-    let b = s.b.to_be_bytes();
-    let c = s.c.to_be_bytes();
-    let d = s.d.to_be_bytes();
-    let e = s.e.to_be_bytes();
-    let f = s.f.to_be_bytes();
-    let g = s.g.to_be_bytes();
-    let h = s.h.to_be_bytes();
-    [
-        a[0], a[1], a[2], a[3], b[0], b[1], b[2], b[3], c[0], c[1], c[2], c[3], d[0], d[1], d[2],
-        d[3], e[0], e[1], e[2], e[3], f[0], f[1], f[2], f[3], g[0], g[1], g[2], g[3], h[0], h[1],
-        h[2], h[3],
-    ]
+    let words = [s.a, s.b, s.c, s.d, s.e, s.f, s.g, s.h];
+    *words
+        .map(u32::to_be_bytes)
+        .as_flattened()
+        .as_array()
+        .unwrap()
 }
 
 // The hash value before the first block.

@@ -5,7 +5,7 @@ ghost use Rattle.hash.specs.Constants.{initial};
 ghost use Rattle.hash.specs.Digest.{resumed};
 ghost use Rattle.hash.specs.Hmac.{filled, block_key, mixed, hmac, kept, tag_under, TagsAsKey};
 
-use crate::block::{HashBytes, Words, compress, first_value};
+use crate::block::{Block, HashBytes, Words, compress, first_value};
 use crate::sha::{hash_from, sha256};
 
 // Writes bytes over the front of a block of zeros.
@@ -19,7 +19,7 @@ fn put(out: &mut [u8], bytes: &[u8])
 }
 
 // The key as one block.
-fn key_block(key: &[u8]) -> [u8; 64]
+fn key_block(key: &[u8]) -> Block
     ensures { result ≡ block_key key.now }
 {
     let mut out = [0u8; 64];
@@ -33,22 +33,24 @@ fn key_block(key: &[u8]) -> [u8; 64]
 }
 
 // Each byte of a block, mixed with one byte.
-fn mix(block: &[u8; 64], b: u8) -> [u8; 64]
+fn mix(block: &Block, b: u8) -> Block
     ensures { result ≡ mixed block.now b }
 {
-    let mut out = *block;
-    for i in 0..64 {
-        out[i] ^= b;
-    }
-    out
+    block.map(|byte| byte ^ b)
 }
 
 // The hash value after a block mixed with a byte.
-fn after_mixed(block: &[u8; 64], b: u8) -> Words
+fn after_mixed(block: &Block, b: u8) -> Words
     ensures { result ≡ compressed initial (mixed block.now b) }
 {
-    let out = mix(block, b);
-    compress(first_value(), &out)
+    compress(first_value(), &mix(block, b))
+}
+
+// The hash of a block and a text, where the block gave a hash value.
+fn after_block(value: Words, text: &[u8]) -> HashBytes
+    ensures { result ≡ resumed value 64 text.now }
+{
+    hash_from(value, 64, text)
 }
 
 // A key whose two first blocks are hashed: a tag of up to 55 bytes costs two blocks more.
@@ -70,24 +72,12 @@ impl MacKey {
         }
     }
 
-    fn inner_hash(&self, text: &[u8]) -> HashBytes
-        ensures { result ≡ resumed self.now.inner 64 text.now }
-    {
-        hash_from(self.inner, 64, text)
-    }
-
-    fn outer_hash(&self, inner: &HashBytes) -> HashBytes
-        ensures { result ≡ resumed self.now.outer 64 inner.now }
-    {
-        hash_from(self.outer, 64, inner)
-    }
-
     // The tag of a text.
     pub fn tag(&self, text: &[u8]) -> HashBytes
         ensures value { result ≡ tag_under self.now text.now }
         ensures tags_as_key { TagsAsKey }
     {
-        self.outer_hash(&self.inner_hash(text))
+        after_block(self.outer, &after_block(self.inner, text))
     }
 }
 

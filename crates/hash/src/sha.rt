@@ -1,33 +1,36 @@
 // SHA-256 of a message that comes in one part or in several.
-ghost use Rattle.std.specs.Prelude.{◌≡◌, ℕ, ◌+◌, ◌-◌, ◌%◌, ◌<◌, ◌≤◌, List, [], ◌∷◌, ◌++◌, length, take, replicate};
+ghost use Rattle.std.specs.Prelude.{◌≡◌, ℕ, ◌+◌, ◌-◌, ◌*◌, ◌/◌, ◌%◌, ◌<◌, ◌≤◌, List, [], ◌∷◌, ◌++◌, length, take, drop, replicate};
 ghost use Rattle.hash.specs.Constants.{initial};
 ghost use Rattle.hash.specs.Digest.{padding, after_all, sha256, resumed};
 ghost use Rattle.hash.specs.Taken.{Took, GoesOn};
 
-use crate::block::{HashBytes, Words, bytes_of, compress, first_value};
+use crate::block::{Block, HashBytes, Words, bytes_of, compress, first_value};
 
-// The hash value after the whole blocks of some bytes, read where they lie.
-fn absorb(start: Words, bytes: &[u8]) -> Words
-    ensures { result ≡ after_all start bytes.now }
+// The hash value after the whole blocks of some bytes, read where they lie, and what is left of them.
+fn absorb(start: Words, bytes: &[u8]) -> (Words, &[u8])
+    ensures value { result.0 ≡ after_all start bytes.now }
+    ensures rest { result.1.now ≡ drop (64 * (length bytes.now / 64)) bytes.now }
 {
     let mut s = start;
-    for k in 0..bytes.len() / 64 {
-        s = compress(s, &bytes[64 * k..64 * k + 64]);
+    let (blocks, rest) = bytes.as_chunks();
+    for block in blocks {
+        s = compress(s, block);
     }
-    s
+    (s, rest)
 }
 
-// Fills zeros with the end of a message: its last bytes, the one bit, and its length in bits.
-fn pad(out: &mut [u8], tail: &[u8], bits: &[u8; 8])
-    requires tail_in_bounds { length tail.now + 9 ≤ length out.old }
-    requires out_value { out.old ≡ replicate (length out.old) 0 }
-    ensures { out.new ≡ tail.now ++ (128 ∷ (replicate (length out.old - (length tail.now + 9)) 0 ++ bits.now)) }
+// The end of a message as blocks: its last bytes, the one bit, zeros, and its length in bits.
+fn padded<const N: usize>(tail: &[u8], bits: &[u8; 8]) -> [u8; N]
+    requires { length tail.now + 9 ≤ N }
+    ensures { result ≡ tail.now ++ (128 ∷ (replicate (N - (length tail.now + 9)) 0 ++ bits.now)) }
 {
+    let mut out = [0; N];
+    let end = &mut out[..];
     let n = tail.len();
-    let end = out.len();
-    out[0..n].copy_from_slice(tail);
-    out[n] = 128;
-    out[end - 8..end].copy_from_slice(bits);
+    end[..n].copy_from_slice(tail);
+    end[n] = 128;
+    end[N - 8..].copy_from_slice(bits);
+    out
 }
 
 // The hash value after the last bytes of a message and its padding; `len` is the message's length.
@@ -37,13 +40,10 @@ fn close(state: Words, tail: &[u8], len: u64) -> Words
 {
     let bits = len.wrapping_mul(8).to_be_bytes();
     if tail.len() < 56 {
-        let mut end = [0u8; 64];
-        pad(&mut end, tail, &bits);
-        return absorb(state, &end);
+        absorb(state, &padded::<64>(tail, &bits)).0
+    } else {
+        absorb(state, &padded::<128>(tail, &bits)).0
     }
-    let mut end = [0u8; 128];
-    pad(&mut end, tail, &bits);
-    absorb(state, &end)
 }
 
 // The hash of a message from its rest in one piece, where the bytes before it, whole blocks, gave a hash value.
@@ -52,20 +52,17 @@ pub(crate) fn hash_from(state: Words, before: u64, rest: &[u8]) -> HashBytes
     ensures rest { result ≡ resumed state before rest.now }
     ensures whole { state ≡ initial → before ≡ 0 → result ≡ sha256 rest.now }
 {
-    let n = rest.len();
-    let left = n % 64;
-    bytes_of(close(
-        absorb(state, rest),
-        &rest[n - left..n],
-        before.wrapping_add(n as u64),
-    ))
+    let (value, tail) = absorb(state, rest);
+    bytes_of(close(value, tail, before.wrapping_add(rest.len() as u64)))
 }
 
-// SHA-256 of bytes that come part by part. Only an unfinished block is copied.
+// SHA-256 of bytes that come part by part. Only an unfinished block is copied. What was taken is no function of the
+// fields, so contracts say how a hasher goes on, and no field or model can.
 #[derive(Clone, Copy)]
 pub struct Hasher {
     state: Words,
-    tail: [u8; 64],
+    // the unfinished block, in place, since nothing is allocated here; its length follows from `len`
+    tail: Block,
     len: u64,
 }
 
@@ -80,27 +77,29 @@ impl Hasher {
         }
     }
 
-    // Brings an unfinished block forward, and says how many of the bytes went into it.
-    fn fill(&mut self, bytes: &[u8]) -> usize
-        ensures within { result ≤ length bytes.now }
-        ensures even { result < length bytes.now → self.new.len % 64 ≡ 0 }
-        ensures takes { GoesOn self.old (take result bytes.now) self.new }
+    // Brings an unfinished block forward, and gives the bytes that are left.
+    fn fill<'a>(&mut self, bytes: &'a [u8]) -> &'a [u8]
+        ensures within { length result.now ≤ length bytes.now }
+        ensures left { result.now ≡ drop (length bytes.now - length result.now) bytes.now }
+        ensures even { 0 < length result.now → self.new.len % 64 ≡ 0 }
+        ensures takes { GoesOn self.old (take (length bytes.now - length result.now) bytes.now) self.new }
     {
         let have = (self.len % 64) as usize;
         if have == 0 {
-            return 0;
+            return bytes;
         }
         let room = 64 - have;
         let n = bytes.len();
         if n < room {
             self.tail[have..have + n].copy_from_slice(bytes);
             self.len = self.len.wrapping_add(n as u64);
-            return n;
+            return &[];
         }
-        self.tail[have..64].copy_from_slice(&bytes[0..room]);
+        let (front, rest) = bytes.split_at(room);
+        self.tail[have..].copy_from_slice(front);
         self.state = compress(self.state, &self.tail);
         self.len = self.len.wrapping_add(room as u64);
-        room
+        rest
     }
 
     // Takes bytes at the start of a block.
@@ -108,21 +107,19 @@ impl Hasher {
         requires { self.old.len % 64 ≡ 0 }
         ensures { GoesOn self.old bytes.now self.new }
     {
-        let n = bytes.len();
-        let left = n % 64;
-        self.state = absorb(self.state, bytes);
-        self.tail[0..left].copy_from_slice(&bytes[n - left..n]);
-        self.len = self.len.wrapping_add(n as u64);
+        let (state, rest) = absorb(self.state, bytes);
+        self.state = state;
+        self.tail[..rest.len()].copy_from_slice(rest);
+        self.len = self.len.wrapping_add(bytes.len() as u64);
     }
 
     // Takes the next part of the message.
     pub fn update(&mut self, bytes: &[u8])
         ensures { GoesOn self.old bytes.now self.new }
     {
-        let n = bytes.len();
-        let used = self.fill(bytes);
-        if used < n {
-            self.take_blocks(&bytes[used..n]);
+        let rest = self.fill(bytes);
+        if !rest.is_empty() {
+            self.take_blocks(rest);
         }
     }
 

@@ -25,16 +25,3 @@ loop-j-preserved c =
       ap (λ k. take k c.extend.new.ws) end ∙ c.extend.ensures first stood ∙ ap (schedule first) after,
       c.eight_rounds-s.ensures all c.args.start same c.loop-j.invariant.2 ∙ ap (rounds all c.args.start) n,
     )
-
-pub returns : goal.returns
-returns c =
-    let ws = c.loop-j.ws in
-    let start = c.args.start in
-    let first = take 16 c.args.ws.now in
-    let all = schedule first 48 in
-    let short : length first ≡ 16 = length-take-le 16 c.args.ws.now (omega (arith, c.told-ws)) in
-    let n : 8 * c.loop-j.j ≡ 48 = omega arith in
-    let stood : take 64 ws ≡ schedule first 48 = ap (λ k. take (16 + k) ws) (sym n) ∙ c.loop-j.invariant.1 ∙ ap (schedule first) n in
-    let at : c.loop-j.s ≡ rounds all start 48 = c.loop-j.invariant.2 ∙ ap (rounds all start) n in
-    let more = c.eight_rounds-t.ensures all start (stands_so_far ws first 48 56 short (omega arith) (omega arith) stood) at in
-    c.eight_rounds.ensures all start (stands_so_far ws first 48 64 short (omega arith) (omega arith) stood) more

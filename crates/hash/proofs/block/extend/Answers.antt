@@ -4,9 +4,6 @@ use Rattle.hash.specs.Compression.{schedule, next_word}
 use Rattle.hash.proofs.Steps.{schedule_more, next_take}
 use Rattle.hash.proofs.block.extend.Goals as goal
 
-pub loop-i-init : goal.loop-i-init
-loop-i-init c = (c.told-ws, λ first before. before)
-
 pub loop-i-preserved : goal.loop-i-preserved
 unfolding next_word
 loop-i-preserved c =
@@ -20,11 +17,5 @@ loop-i-preserved c =
           let e : schedule first ((i + 1) - 16) ≡ take i ws ++ v ∷ [] =
           ap (schedule first) far ∙ schedule_more first (i - 16) ∙ (rw (sym (c.loop-i.invariant.1 first before), back, next_take ws i (omega arith)))
           in
-          simp (c.sigma1.ensures, c.sigma0.ensures) (take_more_set ws i v (omega arith) ∙ sym e),
+          simp c.word_from.ensures (take_more_set ws i v (omega arith) ∙ sym e),
     )
-
-pub returns : goal.returns
-returns c first before =
-    let n : c.loop-i.i ≡ c.args.from + 8 = omega arith in
-    let m : (c.args.from + 8) - 16 ≡ c.args.from - 8 = omega arith in
-    rw (sym n) (c.loop-i.invariant.1 first before ∙ ap (schedule first) (rw n m))

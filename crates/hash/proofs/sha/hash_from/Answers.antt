@@ -1,4 +1,4 @@
-use Rattle.std.proofs.Common.{◌≡◌, ◌+◌, ◌-◌, ◌*◌, ◌/◌, ◌%◌, ◌^◌, ◌++◌, length, take, drop, sym, refl, ap, ◌∙◌, arith}
+use Rattle.std.proofs.Common.{◌≡◌, ◌+◌, ◌*◌, ◌/◌, ◌%◌, ◌^◌, ◌++◌, length, take, drop, sym, refl, ap, ◌∙◌, arith}
 use Rattle.std.proofs.lemmas.List.{take_all, length-drop}
 use Rattle.hash.specs.declared.sha.Hasher.{Hasher}
 use Rattle.hash.specs.Constants.{initial}
@@ -15,16 +15,13 @@ closed c =
     let n = length rest in
     let left = drop (64 * (n / 64)) rest in
     let len = (before + n) % 2 ^ 64 in
-    let h : Hasher = record { state = c.absorb.result; tail = left; len = len } in
+    let h : Hasher = record { state = c.absorb.result.0; tail = left; len = len } in
     let size : length left ≡ n % 64 = length-drop (64 * (n / 64)) rest ∙ omega arith in
     let took : Took c.args.state before h rest =
-    record { whole = c.requires; value = c.absorb.ensures; rest = take_all (n % 64) left (omega arith); count = refl }
+    record { whole = c.requires; value = c.absorb.ensures.value; rest = take_all (n % 64) left (omega arith); count = refl }
     in
-    let at : n - n % 64 ≡ 64 * (n / 64) = omega arith in
-    let part : take (n - (n - n % 64)) (drop (n - n % 64) rest) ≡ take (len % 64) left =
-    ap (λ k. take (n - k) (drop k rest)) at ∙ take_all (n - 64 * (n / 64)) left (omega arith) ∙ sym (take_all (len % 64) left (omega (arith, c.requires)))
-    in
-    c.bytes_of.ensures ∙ ap bytes_of (c.close.ensures ∙ ap (λ t. after_all c.absorb.result (t ++ padding len)) part ∙ took_all c.args.state before h rest took)
+    let part : c.absorb.result.1.now ≡ take (len % 64) left = c.absorb.ensures.rest ∙ sym (take_all (len % 64) left (omega (arith, c.requires))) in
+    c.bytes_of.ensures ∙ ap bytes_of (c.close.ensures ∙ ap (λ t. after_all c.absorb.result.0 (t ++ padding len)) part ∙ took_all c.args.state before h rest took)
 
 pub returns : goal.returns
 unfolding resumed sha256
