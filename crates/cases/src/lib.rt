@@ -15,7 +15,9 @@ mod tests {
     use device::{GroupKey, PairKey, Usig, check_record};
     use std::process::Abort;
     use std::test::Fail;
-    use wire::{Body, Message, RECORD_LEN, Vouch, primary, quorum, read, read_request, write};
+    use wire::{
+        Body, Message, RECORD_LEN, Refusal, Vouch, primary, quorum, read, read_request, write,
+    };
 
     type Record = [u8; RECORD_LEN];
 
@@ -28,32 +30,23 @@ mod tests {
         record
     }
 
-    // Reading is refused for the form, at this byte.
-    fn bad_at(rt: &impl Abort, size: u8, record: &Record, byte: u32) -> Result<(), Fail> {
-        match read(size, record) {
-            Ok(_) => Err(Fail::new("it is read")),
-            Err(refusal) => {
-                assert_eq!(rt; refusal.number(), 3);
-                assert_eq!(rt; refusal.place(), byte);
-                Ok(())
-            }
-        }
+    // The question that was answered with no, and its place.
+    fn said(refusal: Refusal) -> (u32, u32) {
+        (refusal.number(), refusal.place())
     }
 
+    // Reading is refused for the form, at this byte.
+    fn bad_at(rt: &impl Abort, size: u8, record: &Record, byte: u32) {
+        assert_eq!(rt; read(size, record).map_err(said), Err((3, byte)));
+    }
+
+    // A record is read, and its message written gives it again.
     fn good(rt: &impl Abort, size: u8, record: &Record) -> Result<(), Fail> {
-        match read(size, record) {
-            Ok(message) => {
-                let mut again = [1; RECORD_LEN];
-                match write(&message, &mut again) {
-                    Ok(()) => {
-                        assert_eq!(rt; again, *record);
-                        Ok(())
-                    },
-                    Err(_) => Err(Fail::new("it is not written")),
-                }
-            }
-            Err(_) => Err(Fail::new("it is refused")),
-        }
+        let message = read(size, record)?;
+        let mut again = [1; RECORD_LEN];
+        write(&message, &mut again)?;
+        assert_eq!(rt; again, *record);
+        Ok(())
     }
 
     #[test]
@@ -75,9 +68,7 @@ mod tests {
             },
         };
         let mut record = [9; RECORD_LEN];
-        if write(&message, &mut record).is_err() {
-            return Err(Fail::new("it is not written"));
-        }
+        write(&message, &mut record)?;
         let mut wanted = [0; RECORD_LEN];
         wanted[0] = 2;
         wanted[1] = 1;
@@ -92,99 +83,86 @@ mod tests {
     fn heads(rt: HostRuntime) -> Result<(), Fail> {
         let mut record = plain(2);
         good(&rt, 3, &record)?;
-        bad_at(&rt, 4, &record, 1)?;
+        bad_at(&rt, 4, &record, 1);
         record[47] = 1;
-        bad_at(&rt, 3, &record, 47)?;
+        bad_at(&rt, 3, &record, 47);
         record[7] = 0;
-        bad_at(&rt, 3, &record, 4)?;
+        bad_at(&rt, 3, &record, 4);
         record[3] = 1;
-        bad_at(&rt, 3, &record, 3)?;
+        bad_at(&rt, 3, &record, 3);
         record[2] = 1;
-        bad_at(&rt, 3, &record, 2)?;
+        bad_at(&rt, 3, &record, 2);
         record[1] = 3;
-        bad_at(&rt, 3, &record, 1)?;
+        bad_at(&rt, 3, &record, 1);
         record[0] = 6;
-        bad_at(&rt, 3, &record, 0)
+        bad_at(&rt, 3, &record, 0);
+        Ok(())
     }
 
     #[test]
     fn bodies(rt: HostRuntime) -> Result<(), Fail> {
         let mut prepare = plain(1);
-        bad_at(&rt, 3, &prepare, 14)?;
+        bad_at(&rt, 3, &prepare, 14);
         prepare[17] = 1;
         good(&rt, 3, &prepare)?;
         prepare[13] = 64;
-        bad_at(&rt, 3, &prepare, 12)?;
+        bad_at(&rt, 3, &prepare, 12);
         let mut checkpoint = plain(3);
-        bad_at(&rt, 3, &checkpoint, 8)?;
+        bad_at(&rt, 3, &checkpoint, 8);
         checkpoint[11] = 17;
-        bad_at(&rt, 3, &checkpoint, 8)?;
+        bad_at(&rt, 3, &checkpoint, 8);
         checkpoint[11] = 32;
         good(&rt, 3, &checkpoint)?;
         checkpoint[44] = 1;
-        bad_at(&rt, 3, &checkpoint, 44)?;
+        bad_at(&rt, 3, &checkpoint, 44);
         let mut change = plain(4);
         good(&rt, 3, &change)?;
         change[20] = 1;
-        bad_at(&rt, 3, &change, 20)
+        bad_at(&rt, 3, &change, 20);
+        Ok(())
     }
 
     // The same pairs are right in one size and wrong in another.
     #[test]
     fn pairs(rt: HostRuntime) -> Result<(), Fail> {
         let mut record = plain(5);
-        bad_at(&rt, 3, &record, 13)?;
+        bad_at(&rt, 3, &record, 13);
         record[16] = 1;
         record[17] = 2;
         record[21] = 1;
         good(&rt, 3, &record)?;
-        bad_at(&rt, 5, &record, 22)?;
+        bad_at(&rt, 5, &record, 22);
         record[22] = 4;
         record[26] = 1;
-        bad_at(&rt, 3, &record, 22)?;
+        bad_at(&rt, 3, &record, 22);
         good(&rt, 5, &record)?;
-        bad_at(&rt, 7, &record, 27)?;
+        bad_at(&rt, 7, &record, 27);
         record[22] = 2;
-        bad_at(&rt, 5, &record, 22)?;
+        bad_at(&rt, 5, &record, 22);
         record[12] = 5;
-        bad_at(&rt, 5, &record, 12)
+        bad_at(&rt, 5, &record, 12);
+        Ok(())
     }
 
     #[test]
-    fn requests(rt: HostRuntime) -> Result<(), Fail> {
+    fn requests(rt: HostRuntime) {
         let mut request = [0; 16];
-        match read_request(&request) {
-            Ok(_) => return Err(Fail::new("number 0 is read")),
-            Err(refusal) => assert_eq!(rt; refusal.place(), 2),
-        }
+        assert_eq!(rt; read_request(&request).map_err(said), Err((3, 2)));
         request[1] = 64;
-        match read_request(&request) {
-            Ok(_) => return Err(Fail::new("client 64 is read")),
-            Err(refusal) => assert_eq!(rt; refusal.place(), 0),
-        }
-        match read_request(&request[0..15]) {
-            Ok(_) => Err(Fail::new("15 bytes are read")),
-            Err(refusal) => {
-                assert_eq!(rt; refusal.number(), 2);
-                Ok(())
-            },
-        }
+        assert_eq!(rt; read_request(&request).map_err(said), Err((3, 0)));
+        assert_eq!(rt; read_request(&request[0..15]).map_err(said), Err((2, 1)));
     }
 
-    // What a make answers: the number of its refusal, or 0.
-    fn made<D: Usig>(device: &mut D, record: &mut [u8], tag: &mut [u8]) -> u32 {
-        match device.make(record, tag) {
-            Ok(()) => 0,
-            Err(refusal) => refusal.number(),
-        }
+    // What a make answers: nothing, or the number of its refusal.
+    fn made<D: Usig>(device: &mut D, record: &mut [u8], tag: &mut [u8]) -> Result<(), u32> {
+        device.make(record, tag).map_err(Refusal::number)
     }
 
     // What a check answers.
-    fn checked<D: Usig>(device: &D, size: u8, record: &[u8], tag: &[u8]) -> u32 {
-        match check_record(device, size, record, tag) {
-            Ok(_) => 0,
-            Err(refusal) => refusal.number(),
-        }
+    fn checked<D: Usig>(device: &D, size: u8, record: &[u8], tag: &[u8]) -> Result<(), u32> {
+        check_record(device, size, record, tag)
+            .map(|_| ())
+            .map_err(Refusal::number)
     }
 
     #[test]
@@ -192,21 +170,21 @@ mod tests {
         let mut device = GroupKey::new(3, 2, &[7; 32], 2);
         let mut record = plain(2);
         let mut tag = [0; 32];
-        assert_eq!(rt; made(&mut device, &mut [0; 47], &mut tag), 2);
-        assert_eq!(rt; made(&mut device, &mut record, &mut tag), 0);
+        assert_eq!(rt; made(&mut device, &mut [0; 47], &mut tag), Err(2));
+        assert_eq!(rt; made(&mut device, &mut record, &mut tag), Ok(()));
         assert_eq!(rt; record[1], 2);
         assert_eq!(rt; record[7], 1);
-        assert_eq!(rt; checked(&device, 3, &record, &tag), 0);
-        assert_eq!(rt; made(&mut device, &mut record, &mut tag), 0);
+        assert_eq!(rt; checked(&device, 3, &record, &tag), Ok(()));
+        assert_eq!(rt; made(&mut device, &mut record, &mut tag), Ok(()));
         assert_eq!(rt; record[7], 2);
-        assert_eq!(rt; made(&mut device, &mut record, &mut tag), 13);
+        assert_eq!(rt; made(&mut device, &mut record, &mut tag), Err(13));
         let other = GroupKey::new(3, 0, &[8; 32], 0);
-        assert_eq!(rt; checked(&other, 3, &record, &tag), 4);
+        assert_eq!(rt; checked(&other, 3, &record, &tag), Err(4));
         let outside = GroupKey::new(3, 3, &[7; 32], 9);
         assert_eq!(rt; outside.last(), 0);
-        assert_eq!(rt; checked(&outside, 3, &record, &tag), 4);
+        assert_eq!(rt; checked(&outside, 3, &record, &tag), Err(4));
         tag[31] ^= 1;
-        assert_eq!(rt; checked(&device, 3, &record, &tag), 4);
+        assert_eq!(rt; checked(&device, 3, &record, &tag), Err(4));
     }
 
     // Devices 1 and 2 hold the same key for each other, and 0 holds another for 1.
@@ -220,16 +198,16 @@ mod tests {
         let zero = PairKey::new(3, 0, &keys, 9);
         let mut record = plain(2);
         let mut tag = [5; 224];
-        assert_eq!(rt; made(&mut one, &mut record, &mut tag), 0);
+        assert_eq!(rt; made(&mut one, &mut record, &mut tag), Ok(()));
         assert_eq!(rt; tag[96], 0);
         assert_eq!(rt; tag[223], 0);
-        assert_eq!(rt; checked(&one, 3, &record, &tag), 0);
-        assert_eq!(rt; checked(&two, 3, &record, &tag), 0);
-        assert_eq!(rt; checked(&zero, 3, &record, &tag), 4);
+        assert_eq!(rt; checked(&one, 3, &record, &tag), Ok(()));
+        assert_eq!(rt; checked(&two, 3, &record, &tag), Ok(()));
+        assert_eq!(rt; checked(&zero, 3, &record, &tag), Err(4));
         tag[0] ^= 1;
         tag[200] ^= 1;
-        assert_eq!(rt; checked(&two, 3, &record, &tag), 0);
+        assert_eq!(rt; checked(&two, 3, &record, &tag), Ok(()));
         tag[64] ^= 1;
-        assert_eq!(rt; checked(&two, 3, &record, &tag), 4);
+        assert_eq!(rt; checked(&two, 3, &record, &tag), Err(4));
     }
 }

@@ -1,5 +1,5 @@
 -- What it takes that a record is read.
-use Rattle.std.proofs.Common.{◌≡◌, ℕ, zero, suc, ◌+◌, ◌<◌, Bool, true, false, cond, eqb, ltb, List, [], ◌∷◌, length, get_or, drop, replicate, Some, None, Ok, Err, Option, Result, refl, ap, ◌∙◌, arith, ltb-true, lt-ltb, eq-eqb, eqb-true}
+use Rattle.std.proofs.Common.{◌≡◌, ℕ, zero, suc, ◌+◌, ◌<◌, Bool, true, false, cond, eqb, ltb, List, [], ◌∷◌, length, get_or, drop, replicate, Some, None, Ok, Err, Option, Result, sym, refl, ap, ◌∙◌, ltb-true, lt-ltb, eq-eqb, eqb-true}
 use Rattle.hash.specs.Bytes.{number_at}
 use Rattle.wire.specs.Forms.{field, or_else, unnamed_fault, body_fault, named_end, body_at, message_at, record_fault, unless_fault, judged, parse}
 use Rattle.wire.specs.Groups.{member}
@@ -20,23 +20,38 @@ pub record Accepted (n : ℕ) (bs : List ℕ) (b : Body) : Type 0 where
 -- a field without fault is good, and so is what follows it
 pub field_good : (place : ℕ) (good : Bool) (after : Option ℕ) → field place good after ≡ None → (good ≡ true) × (after ≡ None)
 field_good place true after h = (refl, h)
-field_good place false after h = let z : ◌≡◌ {A = ℕ} 0 1 = cc in absurd (omega arith)
+field_good place false after h = absurd cc
 
 or_else_good : (a b : Option ℕ) → or_else a b ≡ None → (a ≡ None) × (b ≡ None)
 or_else_good None b h = (refl, h)
-or_else_good (Some p) b h = let z : ◌≡◌ {A = ℕ} 0 1 = cc in absurd (omega arith)
+or_else_good (Some p) b h = absurd cc
 
 pub unless_good : {X : Type 0} (fault : Option ℕ) (x y : X) → unless_fault fault x ≡ Ok y → (fault ≡ None) × (x ≡ y)
 unless_good None x y h = (refl, cc)
-unless_good (Some p) x y h = let z : ◌≡◌ {A = ℕ} 0 1 = cc in absurd (omega arith)
+unless_good (Some p) x y h = absurd cc
 
 pub cond_good : {X : Type 0} (b : Bool) (r : Result X Refusal) (e : Refusal) (x : X) → cond b r (Err e) ≡ Ok x → (b ≡ true) × (r ≡ Ok x)
 cond_good true r e x h = (refl, h)
-cond_good false r e x h = let z : ◌≡◌ {A = ℕ} 0 1 = cc in absurd (omega arith)
+cond_good false r e x h = absurd cc
+
+-- a fault refuses alike, whatever is given where there is none
+pub fault_kept : {X : Type 0} (fault : Option ℕ) (x : X) (e : Refusal) → unless_fault {X = Unit {0}} fault tt ≡ Err e → unless_fault fault x ≡ Err e
+fault_kept None x e h = absurd cc
+fault_kept (Some p) x e h = cc
+
+pub fault_none : {X : Type 0} (fault : Option ℕ) (x : X) → unless_fault {X = Unit {0}} fault tt ≡ Ok tt → unless_fault fault x ≡ Ok x
+fault_none None x h = refl
+fault_none (Some p) x h = absurd cc
+
+-- a record of the right length and a kind that there is goes by its fields
+pub judged_by : (n : ℕ) (bs cs : List ℕ) (m : Message) → cs ≡ bs → length cs ≡ 48 → Some m.body ≡ body_at cs → m ≡ message_at cs m.body
+    → parse n bs ≡ unless_fault (record_fault n cs m) m
+judged_by n bs cs m same long kind is =
+    ap (parse n) (sym same) ∙ rw (eq-eqb (length cs) 48 long, sym kind) (ap (λ y. unless_fault (record_fault n cs y) y) (sym is))
 
 -- a record that is read was accepted
 judged_good : (n : ℕ) (bs : List ℕ) (m : Message) (o : Option Body) → length bs ≡ 48 → body_at bs ≡ o → judged n bs o ≡ Ok m → (b : Body) × Accepted n bs b × (message_at bs b ≡ m)
-judged_good n bs m None long kind h = let z : ◌≡◌ {A = ℕ} 0 1 = cc in absurd (omega arith)
+judged_good n bs m None long kind h = absurd cc
 judged_good n bs m (Some b) long kind h =
     let u = unless_good (record_fault n bs (message_at bs b)) (message_at bs b) m h in
     let one = field_good 1 (member n (get_or bs 1 0)) _ u.0 in

@@ -1,4 +1,3 @@
-pub mod Writes
 pub mod Numbers
 pub mod Sizes
 pub mod Accepted
@@ -6,3 +5,4 @@ pub mod Reading
 pub mod Writing
 pub mod Requests
 pub mod Digests
+pub mod Parts

@@ -1,19 +1,11 @@
 -- The same of requests.
-use Rattle.std.proofs.Common.{◌≡◌, eqb, ltb, [], ◌++◌, length, sym, refl, ap, ◌∙◌, subst, arith, ltb-true, eq-eqb, eqb-true}
+use Rattle.std.proofs.Common.{◌≡◌, eqb, ◌++◌, length, sym, refl, ap, ◌∙◌, subst, arith, eqb-true}
 use Rattle.std.proofs.lemmas.List.{append-nil, drop_all}
 use Rattle.wire.specs.Forms.{request_fault, unless_fault}
-use Rattle.wire.specs.Laws.{RightRequest, WrittenRequestIsRead, ReadRequestIsWritten}
+use Rattle.wire.specs.Laws.{RightRequest, ReadRequestIsWritten}
 use Rattle.wire.specs.Messages.{request_bytes, request_at}
-use Rattle.wire.proofs.Accepted.{field_good, unless_good, cond_good}
-use Rattle.wire.proofs.Reading.{request_read}
+use Rattle.wire.proofs.Accepted.{unless_good, cond_good}
 use Rattle.wire.proofs.Writing.{request_there, request_fits}
-
-pub written_request_is_read : WrittenRequestIsRead
-written_request_is_read x r =
-    let client = ltb-true x.client 64 (field_good 0 (ltb x.client 64) _ r.fields).0 in
-    let long : length (request_bytes x) ≡ 16 = omega (arith, r.fits.1) in
-    let is : request_at (request_bytes x) 0 ≡ x = ap (λ l. request_at l 0) (sym (append-nil (request_bytes x))) ∙ request_read x [] client r.fits in
-    rw (eq-eqb (length (request_bytes x)) 16 long) (ap (λ y. unless_fault (request_fault 0 y) y) is ∙ ap (λ o. unless_fault o x) r.fields)
 
 pub read_request_is_written : ReadRequestIsWritten
 read_request_is_written bs x fit h =

@@ -189,7 +189,7 @@ by_kind false true c d e v w x y z body h p q r s t = q refl cc
 by_kind false false true d e v w x y z body h p q r s t = r refl cc
 by_kind false false false true e v w x y z body h p q r s t = s refl cc
 by_kind false false false false true v w x y z body h p q r s t = t refl cc
-by_kind false false false false false v w x y z body h p q r s t = let o : ◌≡◌ {A = ℕ} 0 1 = cc in absurd (omega arith)
+by_kind false false false false false v w x y z body h p q r s t = absurd cc
 
 writes : (n : ℕ) (bs : List ℕ) (b : Body) → Bytes bs → Accepted n bs b → Writes n bs b
 writes n bs b fit a =

@@ -3,3 +3,4 @@ pub mod Refusals
 pub mod Messages
 pub mod Forms
 pub mod Laws
+pub mod Texts

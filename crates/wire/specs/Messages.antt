@@ -1,13 +1,18 @@
-use Rattle.std.specs.Prelude.{ℕ, ◌+◌, List, ◌∷◌, ◌++◌, take, drop, replicate, slice_index}
+use Rattle.std.specs.Prelude.{ℕ, ◌+◌, List, [], ◌∷◌, ◌++◌, take, drop, replicate, Result, ◌==◌, slice_index}
 use Rattle.hash.specs.Bytes.{big_endian, number_at}
-use Rattle.std.specs.List.{flat_map}
+use Rattle.std.specs.List.{find, flat_map}
+use Rattle.std.specs.Option.{ok_or}
 use Rattle.wire.specs.declared.message.Body.{Body}
 use Rattle.wire.specs.declared.message.Body.TheVariants as kinds
 use Rattle.wire.specs.declared.message.Digest.{Digest}
+use Rattle.wire.specs.declared.message.Kind.{Kind}
+use Rattle.wire.specs.declared.message.Kind.TheVariants as numbered
 use Rattle.wire.specs.declared.message.Message.{Message}
 use Rattle.wire.specs.declared.message.Pair.{Pair}
 use Rattle.wire.specs.declared.message.Request.{Request}
 use Rattle.wire.specs.declared.message.Vouch.{Vouch}
+use Rattle.wire.specs.declared.refusal.Refusal.{Refusal}
+use Rattle.wire.specs.declared.refusal.Refusal.TheVariants.{BadForm}
 
 -- A request has 16 bytes and a record 48.
 abbrev pub request_length : ℕ
@@ -23,6 +28,21 @@ kind_of (kinds.Commit vouch) = 2
 kind_of (kinds.Checkpoint checkpoint) = 3
 kind_of (kinds.ViewChange view vouch) = 4
 kind_of (kinds.NewView view pairs) = 5
+
+-- The same of the kinds themselves.
+abbrev pub number_of_kind : Kind → ℕ
+number_of_kind numbered.Prepare = 1
+number_of_kind numbered.Commit = 2
+number_of_kind numbered.Checkpoint = 3
+number_of_kind numbered.ViewChange = 4
+number_of_kind numbered.NewView = 5
+
+abbrev pub every_kind : List Kind
+every_kind = numbered.Prepare ∷ (numbered.Commit ∷ (numbered.Checkpoint ∷ (numbered.ViewChange ∷ (numbered.NewView ∷ []))))
+
+-- The kind that has a number; a number that none has is a fault at byte 0.
+abbrev pub kind_of_number : ℕ → Result Kind Refusal
+kind_of_number k = ok_or (find (λ kind. number_of_kind kind == k) every_kind) (BadForm 0)
 
 -- Numbers are written with the highest byte first.
 -- A request: the client in two bytes, its number in four, and the ten bytes of the command.

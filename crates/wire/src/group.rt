@@ -5,7 +5,7 @@ ghost use Rattle.wire.specs.Groups.{is_size, member, quorum_of, primary_of, Leas
 fn is_size(size: u32) -> bool
     ensures { result ≡ is_size size }
 {
-    size == 3 || size == 5 || size == 7
+    matches!(size, 3 | 5 | 7)
 }
 
 // Whether a number is one of a group's replicas. A group has 3, 5 or 7; another size has none.
@@ -31,20 +31,12 @@ pub fn quorum(size: u8) -> Option<u8>
     ensures value { result ≡ (if is_size size then Some (quorum_of size) else None) }
     ensures least_majority { LeastMajority }
 {
-    if is_size(u32::from(size)) {
-        Some(quorum_of(size))
-    } else {
-        None
-    }
+    is_size(u32::from(size)).then(|| quorum_of(size))
 }
 
 // The primary of a view; none where no group has the size.
 pub fn primary(size: u8, view: u32) -> Option<u8>
     ensures { result ≡ (if is_size size then Some (primary_of size view) else None) }
 {
-    if is_size(u32::from(size)) {
-        Some((view % u32::from(size)) as u8)
-    } else {
-        None
-    }
+    is_size(u32::from(size)).then(|| (view % u32::from(size)) as u8)
 }

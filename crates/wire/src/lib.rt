@@ -9,7 +9,7 @@ mod writer;
 
 pub use group::{is_member, primary, quorum};
 pub use message::{
-    Body, Checkpoint, Digest, Message, Pair, RECORD_LEN, REQUEST_LEN, Request, Vouch,
+    Body, Checkpoint, Digest, Kind, Message, Pair, RECORD_LEN, REQUEST_LEN, Request, Vouch,
 };
 pub use reader::{read, read_request};
 pub use refusal::{Buffer, Layer, Refusal};

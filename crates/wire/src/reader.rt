@@ -1,184 +1,167 @@
 // Reading records and requests: what bytes say, and whether they have the right form.
-ghost use Rattle.std.specs.Prelude.{◌≡◌, ◌+◌, ◌<◌, ◌≤◌, length, drop};
+ghost use Rattle.std.specs.Prelude.{◌≡◌, ◌+◌, ◌*◌, ◌<◌, ◌≤◌, true, false, Some, MatchResult, length, take, drop, slice_index};
 ghost use Rattle.hash.specs.Bytes.{number_at};
-ghost use Rattle.wire.specs.Forms.{request_fault, good_replica, pairs_fault, body_fault, named_end, unnamed_fault, record_fault, body_at, parse, parse_request};
+ghost use Rattle.wire.specs.Forms.{request_fault, pairs_fault, body_fault, named_end, unnamed_fault, record_fault, unless_fault, body_at, message_at, parse, parse_request};
 ghost use Rattle.wire.specs.Laws.{ReadIsWritten, ReadRequestIsWritten};
-ghost use Rattle.wire.specs.Messages.{request_at, digest_at, vouch_at, pair_at};
+ghost use Rattle.wire.specs.Messages.{number_of_kind, request_at, digest_at, vouch_at, pair_at};
+ghost use Rattle.wire.specs.declared.refusal.Refusal.TheVariants.{BadForm};
 
 use crate::group::{is_member, quorum_of};
 use crate::message::{
-    Body, Checkpoint, Digest, Message, Pair, RECORD_LEN, REQUEST_LEN, Request, Vouch,
+    Body, Checkpoint, Digest, Kind, Message, Pair, RECORD_LEN, REQUEST_LEN, RecordBytes, Request,
+    Vouch,
 };
 use crate::refusal::{Buffer, Refusal};
+use hash::HashBytes;
+use std::array;
 
-// Numbers that begin at a place, the highest byte first.
-fn u16_at(bytes: &[u8], at: usize) -> u16
-    requires { at + 2 ≤ length bytes.now }
-    ensures { result ≡ number_at 2 bytes.now at }
+// The bytes that begin at a place: each field has a fixed one.
+fn bytes_at<const N: usize>(bytes: &[u8], at: usize) -> [u8; N]
+    requires { at + N ≤ length bytes.now }
+    ensures value { result ≡ take N (drop at bytes.now) }
+    ensures number { number_at N result 0 ≡ number_at N bytes.now at }
 {
-    u16::from_be_bytes([bytes[at], bytes[at + 1]])
+    *bytes[at..].first_chunk().unwrap()
 }
 
-fn u32_at(bytes: &[u8], at: usize) -> u32
-    requires { at + 4 ≤ length bytes.now }
-    ensures { result ≡ number_at 4 bytes.now at }
+fn request_of(bytes: &[u8; REQUEST_LEN]) -> Request
+    ensures { result ≡ request_at bytes.now 0 }
 {
-    u32::from_be_bytes([bytes[at], bytes[at + 1], bytes[at + 2], bytes[at + 3]])
-}
-
-fn u64_at(bytes: &[u8], at: usize) -> u64
-    requires { at + 8 ≤ length bytes.now }
-    ensures { result ≡ number_at 8 bytes.now at }
-{
-    u64::from_be_bytes([
-        bytes[at],
-        bytes[at + 1],
-        bytes[at + 2],
-        bytes[at + 3],
-        bytes[at + 4],
-        bytes[at + 5],
-        bytes[at + 6],
-        bytes[at + 7],
-    ])
-}
-
-fn request_at(bytes: &[u8], at: usize) -> Request
-    requires { at + 16 ≤ length bytes.now }
-    ensures { result ≡ request_at bytes.now at }
-{
-    let mut command = [0; 10];
-    command.copy_from_slice(&bytes[at + 6..at + 16]);
     Request {
-        client: u16_at(bytes, at),
-        number: u32_at(bytes, at + 2),
-        command,
+        client: u16::from_be_bytes(bytes_at(bytes, 0)),
+        number: u32::from_be_bytes(bytes_at(bytes, 2)),
+        command: bytes_at(bytes, 6),
     }
 }
 
-pub(crate) fn digest_at(bytes: &[u8], at: usize) -> Digest
-    requires { at + 32 ≤ length bytes.now }
-    ensures { result ≡ digest_at bytes.now at }
+pub(crate) fn digest_of(bytes: &HashBytes) -> Digest
+    ensures { result ≡ digest_at bytes.now 0 }
 {
     Digest {
-        first: u64_at(bytes, at),
-        second: u64_at(bytes, at + 8),
-        third: u64_at(bytes, at + 16),
-        fourth: u64_at(bytes, at + 24),
+        first: u64::from_be_bytes(bytes_at(bytes, 0)),
+        second: u64::from_be_bytes(bytes_at(bytes, 8)),
+        third: u64::from_be_bytes(bytes_at(bytes, 16)),
+        fourth: u64::from_be_bytes(bytes_at(bytes, 24)),
     }
 }
 
-fn vouch_at(bytes: &[u8], at: usize) -> Vouch
-    requires { at + 8 ≤ length bytes.now }
-    ensures { result ≡ vouch_at bytes.now at }
+fn vouch_of(bytes: &[u8; 8]) -> Vouch
+    ensures { result ≡ vouch_at bytes.now 0 }
 {
     Vouch {
-        view: u32_at(bytes, at),
-        length: u32_at(bytes, at + 4),
+        view: u32::from_be_bytes(bytes_at(bytes, 0)),
+        length: u32::from_be_bytes(bytes_at(bytes, 4)),
     }
 }
 
-fn pair_at(bytes: &[u8], at: usize) -> Pair
-    requires { at + 5 ≤ length bytes.now }
-    ensures { result ≡ pair_at bytes.now at }
+fn pair_of(bytes: &[u8; 5]) -> Pair
+    ensures { result ≡ pair_at bytes.now 0 }
 {
     Pair {
-        replica: bytes[at],
-        count: u32_at(bytes, at + 1),
+        replica: bytes[0],
+        count: u32::from_be_bytes(bytes_at(bytes, 1)),
     }
 }
 
-fn body_at(record: &[u8]) -> Option<Body>
-    requires { length «record».now ≡ 48 }
-    ensures { result ≡ body_at «record».now }
+#[tactic(auto, using(crate::proofs::Parts::request_part, crate::proofs::Parts::digest_part, crate::proofs::Parts::pair_part))]
+fn body_at(kind: Kind, record: &RecordBytes) -> Body
+    requires { slice_index «record».now 0 ≡ number_of_kind kind }
+    ensures { Some result ≡ body_at «record».now }
 {
-    match record[0] {
-        1 => Some(Body::Prepare {
-            view: u32_at(record, 8),
-            request: request_at(record, 12),
-        }),
-        2 => Some(Body::Commit {
-            vouch: vouch_at(record, 8),
-        }),
-        3 => Some(Body::Checkpoint {
+    match kind {
+        Kind::Prepare => Body::Prepare {
+            view: u32::from_be_bytes(bytes_at(record, 8)),
+            request: request_of(&bytes_at(record, 12)),
+        },
+        Kind::Commit => Body::Commit {
+            vouch: vouch_of(&bytes_at(record, 8)),
+        },
+        Kind::Checkpoint => Body::Checkpoint {
             checkpoint: Checkpoint {
-                position: u32_at(record, 8),
-                digest: digest_at(record, 12),
+                position: u32::from_be_bytes(bytes_at(record, 8)),
+                digest: digest_of(&bytes_at(record, 12)),
             },
-        }),
-        4 => Some(Body::ViewChange {
-            view: u32_at(record, 8),
-            vouch: vouch_at(record, 12),
-        }),
-        5 => Some(Body::NewView {
-            view: u32_at(record, 8),
-            pairs: [
-                pair_at(record, 12),
-                pair_at(record, 17),
-                pair_at(record, 22),
-                pair_at(record, 27),
-            ],
-        }),
-        _ => None,
+        },
+        Kind::ViewChange => Body::ViewChange {
+            view: u32::from_be_bytes(bytes_at(record, 8)),
+            vouch: vouch_of(&bytes_at(record, 12)),
+        },
+        Kind::NewView => Body::NewView {
+            view: u32::from_be_bytes(bytes_at(record, 8)),
+            pairs: array::from_fn(
+                |i: usize| -> Pair
+                    requires { i < 4 }
+                    ensures { result ≡ pair_at «record».entry.now (12 + 5 * i) }
+                { pair_of(&bytes_at(record, 12 + 5 * i)) },
+            ),
+        },
     }
 }
 
-// The first bad field of a request that begins at a place.
-fn request_fault(at: u8, request: &Request) -> Option<u8>
+// What a record of a kind says.
+fn message_at(kind: Kind, record: &RecordBytes) -> Message
+    requires { slice_index «record».now 0 ≡ number_of_kind kind }
+    ensures body { Some result.body ≡ body_at «record».now }
+    ensures fields { result ≡ message_at «record».now result.body }
+{
+    Message {
+        sender: record[1],
+        count: u32::from_be_bytes(bytes_at(record, 4)),
+        body: body_at(kind, record),
+    }
+}
+
+// A field that begins at a byte is good, or refused at that byte.
+fn field(byte: u8, good: bool) -> Result<(), Refusal>
+    ensures { MatchResult result (λ _. good ≡ true) (λ e. (good ≡ false) × (e ≡ BadForm byte)) }
+{
+    if good {
+        Ok(())
+    } else {
+        Err(Refusal::BadForm { byte })
+    }
+}
+
+// The fields of a request that begins at a place.
+fn check_request(at: u8, request: &Request) -> Result<(), Refusal>
     requires { at < 32 }
-    ensures { result ≡ request_fault at request.now }
+    ensures { result ≡ unless_fault (request_fault at request.now) tt }
 {
-    if request.client >= 64 {
-        return Some(at);
-    }
-    if request.number == 0 {
-        return Some(at + 2);
-    }
-    None
+    field(at, request.client < 64)?;
+    field(at + 2, request.number > 0)
 }
 
-// Whether the replica of a pair is a member, and at least what the pair before leaves.
-fn good_replica(size: u8, least: u32, replica: u32) -> bool
-    ensures { result ≡ good_replica size least replica }
-{
-    least <= replica && is_member(u32::from(size), replica)
-}
-
-// The first bad field of pairs that begin at byte 12.
-fn pairs_fault(size: u8, pairs: &[Pair]) -> Option<u8>
+// The fields of pairs that begin at byte 12: replicas are members, and each is above the one before.
+fn check_pairs(size: u8, pairs: &[Pair]) -> Result<(), Refusal>
     requires { length pairs.now ≤ 4 }
-    ensures { result ≡ pairs_fault size 12 0 pairs.now }
+    ensures { result ≡ unless_fault (pairs_fault size 12 0 pairs.now) tt }
 {
-    let mut at = 12;
     let mut least = 0;
-    for pair in pairs {
+    for (i, pair) in pairs.iter().enumerate() {
+        let at = 12 + 5 * i as u8;
         let replica = u32::from(pair.replica);
-        if !good_replica(size, least, replica) {
-            return Some(at);
-        }
-        if pair.count == 0 {
-            return Some(at + 1);
-        }
-        at += 5;
+        field(at, least <= replica && is_member(u32::from(size), replica))?;
+        field(at + 1, pair.count > 0)?;
         least = replica + 1;
     }
-    None
+    Ok(())
 }
 
-// The first bad field of a body.
-fn body_fault(size: u8, body: &Body) -> Option<u8>
-    ensures { result ≡ body_fault size body.now }
+// The fields of a body.
+fn check_body(size: u8, body: &Body) -> Result<(), Refusal>
+    ensures { result ≡ unless_fault (body_fault size body.now) tt }
 {
     match body {
-        Body::Prepare { view: _, request } => request_fault(12, request),
-        Body::Checkpoint { checkpoint } => {
-            if checkpoint.position >= 16 && checkpoint.position % 16 == 0 {
-                None
-            } else {
-                Some(8)
-            }
-        }
-        Body::NewView { view: _, pairs } => pairs_fault(size, &pairs[0..quorum_of(size) as usize]),
-        Body::Commit { .. } | Body::ViewChange { .. } => None,
+        Body::Prepare { view: _, request } => check_request(12, request),
+        Body::Checkpoint { checkpoint } => field(
+            8,
+            checkpoint.position >= 16 && checkpoint.position % 16 == 0,
+        ),
+        Body::NewView { view: _, pairs } => check_pairs(
+            size,
+            &pairs[..usize::from(quorum_of(size))],
+        ),
+        Body::Commit { .. } | Body::ViewChange { .. } => Ok(()),
     }
 }
 
@@ -191,83 +174,34 @@ fn named_end(size: u8, body: &Body) -> usize
         Body::Commit { .. } => 16,
         Body::Checkpoint { .. } => 44,
         Body::ViewChange { .. } => 20,
-        Body::NewView { .. } => 12 + 5 * quorum_of(size) as usize,
+        Body::NewView { .. } => 12 + 5 * usize::from(quorum_of(size)),
     }
 }
 
-// The first byte from a place on that is not zero.
-fn unnamed_fault(record: &[u8], from: usize) -> Option<u8>
-    requires { (length «record».now ≡ 48) × (from ≤ 48) }
-    ensures { result ≡ unnamed_fault from (drop from «record».now) }
+// The bytes from a place on, each a field of its own, are zero.
+fn check_unnamed(from: usize, bytes: &[u8]) -> Result<(), Refusal>
+    requires { from + length bytes.now ≤ 48 }
+    ensures { result ≡ unless_fault (unnamed_fault from bytes.now) tt }
 {
-    for i in from..48 {
-        if record[i] != 0 {
-            return Some(i as u8);
-        }
-    }
-    None
-}
-
-// The first bad field of a record of a known kind.
-fn record_fault(size: u8, record: &[u8], message: &Message) -> Option<u8>
-    requires { length «record».now ≡ 48 }
-    ensures { result ≡ record_fault size «record».now message.now }
-{
-    if !is_member(u32::from(size), u32::from(message.sender)) {
-        return Some(1);
-    }
-    if record[2] != 0 {
-        return Some(2);
-    }
-    if record[3] != 0 {
-        return Some(3);
-    }
-    if message.count == 0 {
-        return Some(4);
-    }
-    if let Some(byte) = body_fault(size, &message.body) {
-        return Some(byte);
-    }
-    unnamed_fault(record, named_end(size, &message.body))
-}
-
-// What a record says in a group of a size, or why it is refused.
-fn parsed(size: u8, record: &[u8]) -> Result<Message, Refusal>
-    ensures { result ≡ parse size «record».now }
-{
-    if record.len() != RECORD_LEN {
-        return Err(Refusal::WrongLength {
-            buffer: Buffer::Record,
-        });
-    }
-    let Some(body) = body_at(record) else {
-        return Err(Refusal::BadForm { byte: 0 });
-    };
-    let message = Message {
-        sender: record[1],
-        count: u32_at(record, 4),
-        body,
-    };
-    match record_fault(size, record, &message) {
-        None => Ok(message),
-        Some(byte) => Err(Refusal::BadForm { byte }),
+    match bytes.iter().position(|byte| *byte != 0) {
+        None => Ok(()),
+        Some(i) => Err(Refusal::BadForm {
+            byte: (from + i) as u8,
+        }),
     }
 }
 
-// What a request says, or why it is refused.
-fn parsed_request(request: &[u8]) -> Result<Request, Refusal>
-    ensures { result ≡ parse_request request.now }
+// The fields of a record of a known kind, and the bytes that no field has.
+fn check_form(size: u8, record: &RecordBytes, message: &Message) -> Result<(), Refusal>
+    ensures { result ≡ unless_fault (record_fault size «record».now message.now) tt }
 {
-    if request.len() != REQUEST_LEN {
-        return Err(Refusal::WrongLength {
-            buffer: Buffer::Request,
-        });
-    }
-    let said = request_at(request, 0);
-    match request_fault(0, &said) {
-        None => Ok(said),
-        Some(byte) => Err(Refusal::BadForm { byte }),
-    }
+    field(1, is_member(u32::from(size), u32::from(message.sender)))?;
+    field(2, record[2] == 0)?;
+    field(3, record[3] == 0)?;
+    field(4, message.count > 0)?;
+    check_body(size, &message.body)?;
+    let end = named_end(size, &message.body);
+    check_unnamed(end, &record[end..])
 }
 
 // Reads a record in a group of a size.
@@ -275,7 +209,11 @@ pub fn read(size: u8, record: &[u8]) -> Result<Message, Refusal>
     ensures value { result ≡ parse size «record».now }
     ensures read_is_written { ReadIsWritten }
 {
-    parsed(size, record)
+    Buffer::Record.fits(record, RECORD_LEN)?;
+    let record: &RecordBytes = record.as_array().unwrap();
+    let message = message_at(Kind::try_from(record[0])?, record);
+    check_form(size, record, &message)?;
+    Ok(message)
 }
 
 // Reads a request.
@@ -283,5 +221,8 @@ pub fn read_request(request: &[u8]) -> Result<Request, Refusal>
     ensures value { result ≡ parse_request request.now }
     ensures read_request_is_written { ReadRequestIsWritten }
 {
-    parsed_request(request)
+    Buffer::Request.fits(request, REQUEST_LEN)?;
+    let said = request_of(request.as_array().unwrap());
+    check_request(0, &said)?;
+    Ok(said)
 }

@@ -1,52 +1,59 @@
 // Refusals: each question that a call asks has a number, a layer and a place.
-ghost use Rattle.std.specs.Prelude.{◌≡◌};
+ghost use Rattle.std.specs.Prelude.{◌≡◌, length, IfOk, Some};
+ghost use Rattle.wire.specs.Forms.{fitted};
+ghost use Rattle.wire.specs.Texts.{refusal_text};
 ghost use Rattle.wire.specs.Refusals.{buffer_number, layer_number, number_of, layer_of, place_of};
 
+use std::fmt;
+
 // The lent buffers of a call.
-#[derive(Clone, Copy)]
+#[derive(Clone, Copy, PartialEq, Eq, Debug)]
 pub enum Buffer {
-    Request,
-    Record,
-    Tag,
-    Key,
+    Request = 1,
+    Record = 2,
+    Tag = 3,
+    Key = 4,
 }
 
 impl Buffer {
     pub fn number(self) -> u32
         ensures { result ≡ buffer_number self }
     {
-        match self {
-            Buffer::Request => 1,
-            Buffer::Record => 2,
-            Buffer::Tag => 3,
-            Buffer::Key => 4,
+        self as u32
+    }
+
+    // Refuses bytes of another length.
+    pub fn fits(self, bytes: &[u8], len: usize) -> Result<(), Refusal>
+        ensures value { result ≡ fitted len self bytes.now }
+        ensures fit { IfOk result (λ _. length bytes.now ≡ len) }
+    {
+        if bytes.len() == len {
+            Ok(())
+        } else {
+            Err(Refusal::WrongLength { buffer: self })
         }
     }
 }
 
 // Where a question is asked.
-#[derive(Clone, Copy)]
+#[derive(Clone, Copy, PartialEq, Eq, Debug)]
 pub enum Layer {
-    Record,
-    Device,
-    Table,
+    Record = 1,
+    Device = 2,
+    Table = 3,
 }
 
 impl Layer {
     pub fn number(self) -> u32
         ensures { result ≡ layer_number self }
     {
-        match self {
-            Layer::Record => 1,
-            Layer::Device => 2,
-            Layer::Table => 3,
-        }
+        self as u32
     }
 }
 
 // The question that was answered with no, and what its place needs.
 // Of the table's questions that is the sender in take, and the own number in every other call.
-#[derive(Clone, Copy)]
+#[derive(Clone, Copy, PartialEq, Eq, Debug)]
 pub enum Refusal {
     // The group size is not 3, 5 or 7, the number is not below it, or the device was not new.
     NotInGroup { replica: u32 },
@@ -85,7 +92,7 @@ pub enum Refusal {
 }
 
 impl Refusal {
-    // The number of the question.
+    // The number of the question. Hosts written in C and reports are told numbers, so it stays one.
     pub fn number(self) -> u32
         ensures { result ≡ number_of self }
     {
@@ -113,13 +120,14 @@ impl Refusal {
     pub fn layer(self) -> Layer
         ensures { result ≡ layer_of self }
     {
-        match self.number() {
-            2 | 3 => Layer::Record,
-            4 | 13 => Layer::Device,
+        match self {
+            Refusal::WrongLength { .. } | Refusal::BadForm { .. } => Layer::Record,
+            Refusal::BadTag { .. } | Refusal::DeviceSpent { .. } => Layer::Device,
             _ => Layer::Table,
         }
     }
 
+    // One number whatever the question, for the same readers.
     pub fn place(self) -> u32
         ensures { result ≡ place_of self }
     {
@@ -142,5 +150,16 @@ impl Refusal {
             | Refusal::WrongSlip { replica }
             | Refusal::NotBacked { replica } => u32::from(replica),
         }
+    }
+}
+
+impl fmt::Display for Refusal {
+    ghost output = { λ refusal. Some (refusal_text refusal) };
+
+    fn fmt<W: fmt::Write>(&self, f: &mut fmt::Formatter<W>) -> fmt::Result {
+        let number = self.number();
+        let layer = self.layer().number();
+        let place = self.place();
+        write!(f, "question {number}, layer {layer}, place {place}")
     }
 }
