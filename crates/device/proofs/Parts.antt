@@ -1,8 +1,9 @@
 -- The parts of a pair-key device's tag.
-use Rattle.std.proofs.Common.{◌≡◌, ℕ, zero, suc, ◌+◌, ◌*◌, ◌<◌, ◌≤◌, Bool, true, false, cond, ◌&&◌, ltb, List, [], ◌++◌, map, length, get_or, take, drop, replicate, sym, refl, ap, ◌∙◌, subst, ⊎_elim, append_assoc, add-one, arith, lt-ltb}
-use borrow.Rule.Slice.PartMut.{put_mid}
+use Rattle.std.proofs.Common.{◌≡◌, ℕ, zero, suc, ◌*◌, ◌<◌, ◌≤◌, Bool, true, false, cond, ◌&&◌, ltb, List, [], ◌∷◌, ◌++◌, map, length, get_or, take, drop, replicate, sym, refl, ap, ◌∙◌, subst, ⊎_elim, append-nil, add-one, arith, lt-ltb}
 use Rattle.std.proofs.lemmas.Bool.{cases_lt}
-use Rattle.std.proofs.lemmas.List.{take_at, take_all, take-append-le, drop_at, drop-append-le, drop-drop, get_or-map, length-append, length-drop}
+use Rattle.std.proofs.lemmas.List.{take_more, take_all, take-append-le, drop_at, drop-append-le, get_or-map, length-append, length-drop}
+use Rattle.std.proofs.lemmas.Grind.{flat_map-append}
+use Rattle.std.specs.List.{flat_map}
 use Rattle.hash.specs.Digest.{sha256, resumed}
 use Rattle.hash.specs.Hmac.{hmac, kept, tag_under}
 use Rattle.hash.specs.declared.mac.MacKey.{MacKey}
@@ -14,13 +15,14 @@ use Rattle.device.specs.Pairs.{part, parts, whole_tag, part_for, shared_key, pai
 use Rattle.device.proofs.Same.{same_self}
 use Rattle.device.proofs.Stamps.{may_pass_where}
 
-pub parts_more : (n : ℕ) (tags : ℕ → List ℕ) (r : ℕ) → parts n tags (r + 1) ≡ parts n tags r ++ part n tags r
-parts_more n tags r = rw add-one
-
--- a write of the next part, right after those that are done
-pub put_next : (tag done next : List ℕ) (a k : ℕ) → length done ≡ a → k ≡ 32 → put_mid a k (done ++ drop a tag) next ≡ (done ++ next) ++ drop (a + 32) tag
-put_next tag done next a k e f =
-    rw (f, take_at done (drop a tag) a e, drop_at done (drop a tag) a e, drop-drop 32 a tag) (sym (append_assoc done next (drop (a + 32) tag)))
+-- parts that are each as they should be make the whole
+pub parts_joined : (n : ℕ) (tags : ℕ → List ℕ) (ps : List (List ℕ)) (k : ℕ) → k ≤ length ps → ((r : ℕ) → r < k → get_or ps r [] ≡ part n tags r)
+    → flat_map (λ p. p) (take k ps) ≡ parts n tags k
+parts_joined n tags ps zero le each = refl
+parts_joined n tags ps (suc k) le each =
+    let more : take (suc k) ps ≡ take k ps ++ get_or ps k [] ∷ [] = ap (λ j. take j ps) (sym (add-one k)) ∙ take_more ps k [] (omega arith) in
+    ap (flat_map (λ p. p)) more ∙ flat_map-append (λ p. p) (take k ps) (get_or ps k [] ∷ []) ∙ ap (λ l. l ++ (get_or ps k [] ++ [])) (parts_joined n tags ps k (omega arith) (λ r lt. each r (omega arith)))
+    ∙ ap (λ p. parts n tags k ++ p) (append-nil (get_or ps k []) ∙ each k (omega arith))
 
 -- tags have 32 bytes
 pub tag_length : (key : MacKey) (text : List ℕ) → length (tag_under key text) ≡ 32

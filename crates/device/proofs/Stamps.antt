@@ -25,11 +25,6 @@ may_pass_where n o width bs tag m h k s =
     ap (λ b. b && (eqb (length bs) 48 && (eqb (length tag) width && member n (sender_of bs)))) m ∙ ap (λ b. b && (eqb (length tag) width && member n (sender_of bs))) (eq-eqb (length bs) 48 h)
     ∙ ap (λ b. b && member n (sender_of bs)) (eq-eqb (length tag) width k) ∙ s
 
--- and so may one that a member's device has just stamped
-pub may_pass_stamped : (n o c width : ℕ) (bs new tag : List ℕ) → member n o ≡ true → length bs ≡ 48 → new ≡ stamped bs o c → length tag ≡ width → may_pass n o width new tag ≡ true
-may_pass_stamped n o c width bs new tag m h e k =
-    may_pass_where n o width new tag m (ap length e ∙ stamped_length bs o c h) k (ap (λ x. member n (sender_of x)) e ∙ ap (member n) (stamped_sender bs o c h) ∙ m)
-
 -- where a pair may pass, its sender is one of at most seven
 pub sender_below : (n o width : ℕ) (bs tag : List ℕ) → may_pass n o width bs tag ≡ true → sender_of bs < 7
 sender_below n o width bs tag h =

@@ -1,11 +1,9 @@
-use Rattle.std.specs.Prelude.{◌≡◌, ℕ, zero, suc, ◌*◌, Bool, true, cond, ◌&&◌, List, [], ◌++◌, length, take, drop, replicate, Option, nat_lt, slice_index_or}
+use Rattle.std.specs.Prelude.{◌≡◌, ℕ, zero, suc, ◌*◌, Bool, true, cond, ◌&&◌, List, [], ◌++◌, length, take, drop, replicate, nat_lt, slice_index_or}
 use Rattle.hash.specs.Hmac.{hmac, tag_under}
 use Rattle.hash.specs.declared.block.Words.{Words}
+use Rattle.hash.specs.declared.mac.MacKey.{MacKey}
 use Rattle.wire.specs.Groups.{member}
-use Rattle.wire.specs.declared.refusal.Refusal.{Refusal}
 use Rattle.device.specs.Keys.{same_bytes, sender_of, may_pass}
-use Rattle.device.specs.Makes.{make_refusal}
-use Rattle.device.specs.declared.pair.PairKey.{PairKey}
 
 -- A tag has seven parts of 32 bytes, the part r for replica r; parts from the group's size on are zero.
 -- Here `tags r` is the HMAC for replica r.
@@ -37,25 +35,18 @@ pair_tag n keys bs = whole_tag n (λ r. hmac (shared_key keys r) bs)
 abbrev pub pair_passes : ℕ → ℕ → List (List ℕ) → List ℕ → List ℕ → Bool
 pair_passes n owner keys bs tag = may_pass n owner 224 bs tag && same_bytes (part_for owner tag) (hmac (shared_key keys (sender_of bs)) bs)
 
--- The same of a device, which keeps its keys hashed.
+-- The same where the keys are kept hashed.
 abbrev pub no_words : Words
 no_words = record { a = 0; b = 0; c = 0; d = 0; e = 0; f = 0; g = 0; h = 0 }
 
-abbrev pub kept_tag : PairKey → List ℕ → ℕ → List ℕ
-kept_tag d bs r = tag_under (slice_index_or d.keys r (record { inner = no_words; outer = no_words })) bs
+abbrev pub kept_tag : List MacKey → List ℕ → ℕ → List ℕ
+kept_tag keys bs r = tag_under (slice_index_or keys r (record { inner = no_words; outer = no_words })) bs
 
-abbrev pub pair_width : PairKey → ℕ
-pair_width d = 224
+abbrev pub pair_tag_at : ℕ → List MacKey → List ℕ → List ℕ
+pair_tag_at n keys bs = whole_tag n (kept_tag keys bs)
 
-abbrev pub pair_refusal : PairKey → List ℕ → List ℕ → Option Refusal
-pair_refusal d bs tag = make_refusal d.counter.made d.counter.last (pair_width d) bs tag
-
-abbrev pub pair_tag_at : PairKey → List ℕ → List ℕ
-pair_tag_at d bs = whole_tag d.counter.size (kept_tag d bs)
-
-abbrev pub pair_passes_at : PairKey → List ℕ → List ℕ → Bool
-pair_passes_at d bs tag =
-    may_pass d.counter.size d.counter.owner 224 bs tag && same_bytes (part_for d.counter.owner tag) (kept_tag d bs (sender_of bs))
+abbrev pub pair_passes_at : ℕ → ℕ → List MacKey → List ℕ → List ℕ → Bool
+pair_passes_at n owner keys bs tag = may_pass n owner 224 bs tag && same_bytes (part_for owner tag) (kept_tag keys bs (sender_of bs))
 
 -- What one member's device makes passes at another's where both hold the same key for each other.
 abbrev pub PassesAtPartner : Type 0

@@ -1,7 +1,7 @@
 // The count of a device, which only rises.
 ghost use Rattle.std.specs.Prelude.{◌≡◌, ◌+◌, ◌^◌, ◌<◌, ◌≤◌, true, length, if◌then◌else◌};
 ghost use Rattle.device.specs.Keys.{may_pass};
-ghost use Rattle.device.specs.Makes.{make_refusal, stamped};
+ghost use Rattle.device.specs.Makes.{make_refusal, answered, stamped};
 ghost use Rattle.wire.specs.Groups.{member};
 
 use wire::{Buffer, RECORD_LEN, Refusal, is_member};
@@ -9,7 +9,7 @@ use wire::{Buffer, RECORD_LEN, Refusal, is_member};
 // Who counts, in a group of which size, how many counts were made, and which is the last.
 // It cannot be copied, and so no device can: a copy would give its counts again.
 #[derive(Drop)]
-pub(crate) struct Counter {
+pub struct Counter {
     pub(crate) size: u8,
     pub(crate) owner: u8,
     pub(crate) made: u32,
@@ -29,20 +29,16 @@ impl Counter {
         ensures made { result.made ≡ 0 }
         ensures last { result.last ≡ (if member size owner then last else 0) }
     {
-        if is_member(u32::from(size), u32::from(owner)) {
-            Counter {
-                size,
-                owner,
-                made: 0,
-                last,
-            }
+        let last = if is_member(u32::from(size), u32::from(owner)) {
+            last
         } else {
-            Counter {
-                size,
-                owner,
-                made: 0,
-                last: 0,
-            }
+            0
+        };
+        Counter {
+            size,
+            owner,
+            made: 0,
+            last,
         }
     }
 
@@ -56,27 +52,20 @@ impl Counter {
             && is_member(u32::from(self.size), u32::from(record[1]))
     }
 
-    // Why no record is made in two buffers.
-    pub(crate) fn refusal(&self, width: usize, record: &[u8], tag: &[u8]) -> Option<Refusal>
-        ensures { result ≡ make_refusal self.now.made self.now.last width «record».now tag.now }
+    // Refuses two buffers in which no record can be made. The two lengths are two lines, here and in check_record, which a
+    // function of both would not shorten.
+    pub(crate) fn ready(&self, width: usize, record: &[u8], tag: &[u8]) -> Result<(), Refusal>
+        ensures { result ≡ answered (make_refusal self.now.made self.now.last width «record».now tag.now) }
     {
-        if record.len() != RECORD_LEN {
-            return Some(Refusal::WrongLength {
-                buffer: Buffer::Record,
-            });
-        }
-        if tag.len() != width {
-            return Some(Refusal::WrongLength {
-                buffer: Buffer::Tag,
-            });
-        }
+        Buffer::Record.fits(record, RECORD_LEN)?;
+        Buffer::Tag.fits(tag, width)?;
         if self.made == self.last {
-            return Some(Refusal::DeviceSpent { made: self.made });
+            return Err(Refusal::DeviceSpent { made: self.made });
         }
-        None
+        Ok(())
     }
 
-    // Writes the owner and the next count into a record, and counts it.
+    // Writes the owner and the next count into a record, and counts it. The record is a slice, as it was lent to make.
     pub(crate) fn stamp(&mut self, record: &mut [u8])
         requires made_lt_last { self.old.made < self.old.last }
         requires record_len { length «record».old ≡ 48 }

@@ -3,10 +3,13 @@
 
 mod compare;
 mod counter;
+mod device;
 mod group;
+mod keys;
 mod pair;
 mod usig;
 
+pub use device::Device;
 pub use group::{GroupKey, KeyBytes};
 pub use pair::{PairKey, SharedKeys};
 pub use usig::{Usig, check_record};

@@ -29,7 +29,8 @@ pub trait Usig {
     fn tag_len(&self) -> usize
         ensures { result ≡ width self.now };
 
-    // Gives the next count to a record: writes owner and count into it, and a tag that passes here.
+    // Gives the next count to a record: writes owner and count into it, and a tag that passes here. Record and tag are
+    // two buffers, lent to be written here and to be read in check, so no one struct of both would serve.
     fn make(&mut self, record: &mut [u8], tag: &mut [u8]) -> Result<(), Refusal>
         ensures answer { result ≡ answered (make_refusal (made self.old) (last self.old) (width self.old) «record».old tag.old) }
         ensures recorded { «record».new ≡ if_made (make_refusal (made self.old) (last self.old) (width self.old) «record».old tag.old) (stamped «record».old (owner self.old) (made self.old + 1)) «record».old }
@@ -61,26 +62,14 @@ pub fn check_record<D: Usig>(
 ) -> Result<Message, Refusal>
     ensures { result ≡ checked (D.passes device.now) (D.width device.now) size «record».now tag.now }
 {
-    if record.len() != RECORD_LEN {
-        return Err(Refusal::WrongLength {
-            buffer: Buffer::Record,
-        });
-    }
-    if tag.len() != device.tag_len() {
-        return Err(Refusal::WrongLength {
-            buffer: Buffer::Tag,
-        });
-    }
-    match read(size, record) {
-        Ok(message) => {
-            if device.check(record, tag) {
-                Ok(message)
-            } else {
-                Err(Refusal::BadTag {
-                    count: message.count,
-                })
-            }
-        }
-        Err(refusal) => Err(refusal),
+    Buffer::Record.fits(record, RECORD_LEN)?;
+    Buffer::Tag.fits(tag, device.tag_len())?;
+    let message = read(size, record)?;
+    if device.check(record, tag) {
+        Ok(message)
+    } else {
+        Err(Refusal::BadTag {
+            count: message.count,
+        })
     }
 }

@@ -11,15 +11,17 @@ use device::{GroupKey, KeyBytes, check_record};
 use hash::{HashBytes, MacKey, hmac, sha256};
 use wire::{Buffer, Message, RECORD_LEN, Refusal, is_member};
 
-// The number of the question that was answered with no, its layer and its place; all 0 where none was.
+// The number of the question that was answered with no, its layer and its place; all 0 where none was. C takes it as
+// three numbers.
 #[repr(C)]
-#[derive(Clone, Copy)]
+#[derive(Clone, Copy, PartialEq, Eq, Debug)]
 pub struct Answer {
     pub number: u32,
     pub layer: u32,
     pub place: u32,
 }
 
+// Checks at a device. Size, owner and buffers stand apart here and below, as C hands them over.
 fn check_at(
     size: u8,
     owner: u8,
@@ -40,38 +42,29 @@ fn check(size: u32, owner: u32, key: &[u8], record: &[u8], tag: &[u8]) -> Result
     if !is_member(size, owner) {
         return Err(Refusal::NotInGroup { replica: owner });
     }
-    if record.len() != RECORD_LEN {
-        return Err(Refusal::WrongLength {
-            buffer: Buffer::Record,
-        });
-    }
-    if tag.len() != 32 {
-        return Err(Refusal::WrongLength {
-            buffer: Buffer::Tag,
-        });
-    }
-    let Ok(key) = <&KeyBytes>::try_from(key) else {
-        return Err(Refusal::WrongLength {
-            buffer: Buffer::Key,
-        });
-    };
+    Buffer::Record.fits(record, RECORD_LEN)?;
+    Buffer::Tag.fits(tag, 32)?;
+    Buffer::Key.fits(key, 32)?;
+    let key: &KeyBytes = key.as_array().unwrap();
     check_at(size as u8, owner as u8, key, record, tag)
 }
 
-fn answer_of(checked: Result<Message, Refusal>) -> Answer
-    ensures { result ≡ answer_of checked }
-{
-    match checked {
-        Ok(_) => Answer {
-            number: 0,
-            layer: 0,
-            place: 0,
-        },
-        Err(refusal) => Answer {
-            number: refusal.number(),
-            layer: refusal.layer().number(),
-            place: refusal.place(),
-        },
+impl From<Result<Message, Refusal>> for Answer {
+    ghost from_gives = { λ checked answer. answer ≡ answer_of checked };
+
+    fn from(checked: Result<Message, Refusal>) -> Answer {
+        match checked {
+            Ok(_) => Answer {
+                number: 0,
+                layer: 0,
+                place: 0,
+            },
+            Err(refusal) => Answer {
+                number: refusal.number(),
+                layer: refusal.layer().number(),
+                place: refusal.place(),
+            },
+        }
     }
 }
 
@@ -86,10 +79,10 @@ pub extern "C" fn ruddelfo_check(
 ) -> Answer
     ensures { result ≡ answer_of (host_check size owner key.now «record».now tag.now) }
 {
-    answer_of(check(size, owner, key, record, tag))
+    Answer::from(check(size, owner, key, record, tag))
 }
 
-// Writes a hash into a buffer of 32 bytes; a buffer of another length stays as it is.
+// Writes a hash into a buffer of 32 bytes; a buffer of another length stays as it is. C is told by a `bool`.
 fn put(hash: &HashBytes, out: &mut [u8]) -> bool
     ensures value { result ≡ (length out.old == 32) }
     ensures bytes { out.new ≡ filled 32 hash.now out.old }
@@ -101,7 +94,7 @@ fn put(hash: &HashBytes, out: &mut [u8]) -> bool
     true
 }
 
-// SHA-256 of bytes.
+// SHA-256 of bytes. The three hashes are a function each, since C calls them by name.
 #[unsafe(no_mangle)]
 pub extern "C" fn ruddelfo_sha256(bytes: &[u8], out: &mut [u8]) -> bool
     ensures value { result ≡ (length out.old == 32) }
