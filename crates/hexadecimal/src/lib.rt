@@ -1,8 +1,8 @@
 // Bytes as hexadecimal text.
 #![tactic(auto)]
 
-ghost use Rattle.std.specs.Prelude.{◌≡◌, ◌<◌, Some};
-ghost use Rattle.hexadecimal.specs.Texts.{hex_digit, hex_text};
+ghost use Rattle.std.specs.Prelude.{Some};
+ghost use Rattle.hexadecimal.specs.Texts.{hex_text};
 
 use std::fmt;
 
@@ -14,24 +14,10 @@ impl fmt::Display for Hex<'_> {
     ghost output = { λ hex. Some (hex_text hex.0.now) };
 
     fn fmt<W: fmt::Write>(&self, f: &mut fmt::Formatter<W>) -> fmt::Result {
-        for b in self.0 {
-            let high = hex_digit(b / 16);
-            let low = hex_digit(b % 16);
-            write!(f, "{high}{low}")?;
+        for &b in self.0 {
+            write!(f, "{b:02x}")?;
         }
         Ok(())
-    }
-}
-
-fn hex_digit(d: u8) -> char
-    requires { d < 16 }
-    ensures value { result ≡ hex_digit d }
-    ensures ascii { result < 128 }
-{
-    if d < 10 {
-        (b'0' + d) as char
-    } else {
-        (b'a' + (d - 10)) as char
     }
 }
 

@@ -1,8 +1,8 @@
 -- What a line says.
 use Rattle.std.specs.Prelude.{ℕ, zero, suc, Bool, cond, List, length, Some, None, Ok, Err, codes, Option, Result, ◌==◌}
 use Rattle.std.specs.Str.{bytes_eq}
-use Rattle.quarter.specs.declared.Act.{Act}
-use Rattle.quarter.specs.declared.Act.TheVariants.{Buying, Taking, Returning}
+use Rattle.service.specs.declared.orders.Act.{Act}
+use Rattle.service.specs.declared.orders.Act.TheVariants as act
 use Rattle.quarter.specs.declared.Entry.{Entry}
 use Rattle.quarter.specs.declared.Entry.TheVariants.{Buy, Take, Return}
 use Rattle.quarter.specs.declared.Fault.{Fault}
@@ -13,9 +13,9 @@ use Rattle.quarter.specs.Words.{uncommented, first_word, after_word}
 -- The first word names the act: `buy`, `take` or `return`, in lower case.
 abbrev pub act_of : List ℕ → Option Act
 act_of w =
-    cond (bytes_eq w (codes "buy")) (Some Buying)
-    (cond (bytes_eq w (codes "take")) (Some Taking)
-    (cond (bytes_eq w (codes "return")) (Some Returning) None))
+    cond (bytes_eq w (codes "buy")) (Some act.Buy)
+    (cond (bytes_eq w (codes "take")) (Some act.Take)
+    (cond (bytes_eq w (codes "return")) (Some act.Return) None))
 
 -- Field 1 is judged wholly before field 2.
 abbrev pub both : (ℕ → ℕ → Entry) → Result ℕ Fault → Result ℕ Fault → Result Entry Fault
@@ -25,9 +25,9 @@ both make (Ok a) (Ok b) = Ok (make a b)
 
 -- `buy PRODUCT AMOUNT`, `take CLIENT PRODUCT`, `return CLIENT PRODUCT`: a product is at most 255, an amount at most 4294967295, a client at most 63.
 abbrev pub entry_read : Act → List ℕ → List ℕ → Result Entry Fault
-entry_read Buying a b = both Buy (field_read 255 1 a) (field_read 4294967295 2 b)
-entry_read Taking a b = both Take (field_read 63 1 a) (field_read 255 2 b)
-entry_read Returning a b = both Return (field_read 63 1 a) (field_read 255 2 b)
+entry_read act.Buy a b = both Buy (field_read 255 1 a) (field_read 4294967295 2 b)
+entry_read act.Take a b = both Take (field_read 63 1 a) (field_read 255 2 b)
+entry_read act.Return a b = both Return (field_read 63 1 a) (field_read 255 2 b)
 
 -- The word at a place, from 0; empty where the text has fewer.
 abbrev pub word_at : ℕ → List ℕ → List ℕ

@@ -1,8 +1,6 @@
 -- How a line falls into words.
-use Rattle.std.specs.Prelude.{ℕ, Bool, not, ◌||◌, List, take, drop, ◌==◌}
+use Rattle.std.specs.Prelude.{◌≡◌, ℕ, Bool, not, ◌||◌, List, take, drop, ◌==◌}
 use Rattle.std.specs.List.{prefix_len}
-use Rattle.quarter.specs.declared.Run.{Run}
-use Rattle.quarter.specs.declared.Run.TheVariants.{Uncommented, Blank, Word}
 
 -- A comment starts at `#`.
 abbrev pub comment_mark : ℕ → Bool
@@ -12,11 +10,9 @@ comment_mark b = b == 35
 abbrev pub blank : ℕ → Bool
 blank b = b == 32 || b == 9 || b == 13
 
--- The bytes that each kind of run is made of.
-abbrev pub in_run : Run → ℕ → Bool
-in_run Uncommented b = not (comment_mark b)
-in_run Blank b = blank b
-in_run Word b = not (blank b)
+-- A text falls into the longest front whose bytes all pass a test and the rest.
+abbrev pub IsSplit : (ℕ → Bool) → List ℕ → List ℕ → List ℕ → Type 0
+IsSplit test s front rest = (front ≡ take (prefix_len test s) s) × (rest ≡ drop (prefix_len test s) s)
 
 -- What stands before the first `#`: a comment goes to the end of the line.
 unfoldable pub uncommented : List ℕ → List ℕ

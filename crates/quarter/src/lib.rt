@@ -2,19 +2,17 @@
 //! `return CLIENT PRODUCT`. A `#` starts a comment.
 #![tactic(auto)]
 
-ghost use Rattle.std.specs.Prelude.{◌≡◌, ◌≤◌, min, length, IfOk, Some};
+ghost use Rattle.std.specs.Prelude.{◌≡◌, ℕ, Bool, not, ◌≤◌, min, is_some, IfOk, IfSome, Some};
 ghost use Rattle.std.specs.Option.{option_map};
-ghost use Rattle.std.specs.List.{prefix_len};
-ghost use Rattle.std.specs.Str.{bytes_eq};
 ghost use Rattle.quarter.specs.Commands.{client_of, command_of};
-ghost use Rattle.quarter.specs.Lines.{act_of, entry_read, line_read};
+ghost use Rattle.quarter.specs.Lines.{absent, act_of, entry_read, line_read};
 ghost use Rattle.quarter.specs.Numbers.{decimal, field_read};
 ghost use Rattle.quarter.specs.Texts.{fault_text};
-ghost use Rattle.quarter.specs.Words.{after_word, first_word, in_run, uncommented};
+ghost use Rattle.quarter.specs.Words.{IsSplit, after_word, blank, first_word, uncommented};
 
 mod settle;
 
-use service::{BUY, Command, RETURN, TAKE};
+use service::{Act, Command};
 pub use settle::{Quarter, Unread};
 use std::fmt;
 
@@ -43,22 +41,42 @@ impl Entry {
     {
         match *self {
             Entry::Buy { .. } => 0,
-            Entry::Take { client, .. } => client,
-            Entry::Return { client, .. } => client,
+            Entry::Take { client, .. } | Entry::Return { client, .. } => client,
         }
     }
 
-    /// The ten bytes that the service runs.
+    /// The ten bytes that the service runs. A method beside `client` and no conversion, since a step takes the two.
     pub fn command(&self) -> Command
         ensures { result ≡ command_of self.now }
     {
-        match *self {
-            Entry::Buy { product, amount } => {
-                let [a, b, c, d] = amount.to_be_bytes();
-                [BUY, product, a, b, c, d, 0, 0, 0, 0]
+        let (act, product, amount) = match *self {
+            Entry::Buy { product, amount } => (Act::Buy, product, amount),
+            Entry::Take { product, .. } => (Act::Take, product, 0),
+            Entry::Return { product, .. } => (Act::Return, product, 0),
+        };
+        let [a, b, c, d] = amount.to_be_bytes();
+        [act as u8, product, a, b, c, d, 0, 0, 0, 0]
+    }
+
+    /// The entry that an act and its two fields make.
+    fn read(act: Act, first: &[u8], second: &[u8]) -> Result<Entry, Fault>
+        ensures { result ≡ entry_read act first.now second.now }
+    {
+        match act {
+            Act::Buy => {
+                let product = field(first, 1, 255)? as u8;
+                let amount = field(second, 2, u32::MAX)?;
+                Ok(Entry::Buy { product, amount })
             }
-            Entry::Take { product, .. } => [TAKE, product, 0, 0, 0, 0, 0, 0, 0, 0],
-            Entry::Return { product, .. } => [RETURN, product, 0, 0, 0, 0, 0, 0, 0, 0],
+            Act::Take | Act::Return => {
+                let client = field(first, 1, 63)? as u16;
+                let product = field(second, 2, 255)? as u8;
+                if act == Act::Take {
+                    Ok(Entry::Take { client, product })
+                } else {
+                    Ok(Entry::Return { client, product })
+                }
+            }
         }
     }
 }
@@ -81,112 +99,27 @@ impl fmt::Display for Fault {
 pub fn read_line(line: &[u8]) -> Result<Option<Entry>, Fault>
     ensures { result ≡ line_read line.now }
 {
-    let (name, rest) = next_word(without_comment(line));
-    if name.is_empty() {
+    let Some((name, rest)) = next_word(without_comment(line)) else {
         return Ok(None);
-    }
-    let Some(act) = Act::named(name) else {
-        return Err(Fault::UnknownWord);
     };
-    let (first, rest) = next_word(rest);
-    if first.is_empty() {
-        return Err(Fault::MissingField(1));
-    }
-    let (second, rest) = next_word(rest);
-    if second.is_empty() {
-        return Err(Fault::MissingField(2));
-    }
-    let (extra, _) = next_word(rest);
-    if !extra.is_empty() {
+    let act = act_named(name).ok_or(Fault::UnknownWord)?;
+    let (first, rest) = next_word(rest).ok_or(Fault::MissingField(1))?;
+    let (second, rest) = next_word(rest).ok_or(Fault::MissingField(2))?;
+    if next_word(rest).is_some() {
         return Err(Fault::ExtraField);
     }
-    Ok(Some(act.entry(first, second)?))
+    Ok(Some(Entry::read(act, first, second)?))
 }
 
-/// What the first word of a line asks for.
-#[derive(Clone, Copy)]
-enum Act {
-    Buying,
-    Taking,
-    Returning,
-}
-
-impl Act {
-    fn named(word: &[u8]) -> Option<Act>
-        ensures { result ≡ act_of word.now }
-    {
-        if same(word, b"buy") {
-            Some(Act::Buying)
-        } else if same(word, b"take") {
-            Some(Act::Taking)
-        } else if same(word, b"return") {
-            Some(Act::Returning)
-        } else {
-            None
-        }
-    }
-
-    /// The entry that the act and its two fields make.
-    fn entry(self, first: &[u8], second: &[u8]) -> Result<Entry, Fault>
-        ensures { result ≡ entry_read self first.now second.now }
-    {
-        match self {
-            Act::Buying => {
-                let product = field(first, 1, 255)? as u8;
-                let amount = field(second, 2, u32::MAX)?;
-                Ok(Entry::Buy { product, amount })
-            }
-            Act::Taking => {
-                let client = field(first, 1, 63)? as u16;
-                let product = field(second, 2, 255)? as u8;
-                Ok(Entry::Take { client, product })
-            }
-            Act::Returning => {
-                let client = field(first, 1, 63)? as u16;
-                let product = field(second, 2, 255)? as u8;
-                Ok(Entry::Return { client, product })
-            }
-        }
-    }
-}
-
-// `==` as a test that contracts can cite.
-fn same(a: &[u8], b: &[u8]) -> bool
-    ensures { result ≡ bytes_eq a.now b.now }
+/// The act that the first word of a line names. No `TryFrom`, which would have to stand beside the act's type.
+fn act_named(word: &[u8]) -> Option<Act>
+    ensures { result ≡ act_of word.now }
 {
-    a == b
-}
-
-/// What the bytes at the front of a text have in common.
-#[derive(Clone, Copy)]
-enum Run {
-    Uncommented,
-    Blank,
-    Word,
-}
-
-impl Run {
-    fn holds(self, byte: u8) -> bool
-        ensures { result ≡ in_run self byte }
-    {
-        let blank = byte == b' ' || byte == b'\t' || byte == b'\r';
-        match self {
-            Run::Uncommented => byte != b'#',
-            Run::Blank => blank,
-            Run::Word => !blank,
-        }
-    }
-
-    /// How many bytes at the front of a text it holds.
-    fn span(self, text: &[u8]) -> usize
-        ensures value { result ≡ prefix_len (in_run self) text.now }
-        ensures within { result ≤ length text.now }
-    {
-        let mut n = 0;
-        while n < text.len() && self.holds(text[n]) {
-            n += 1;
-        }
-        n
+    match word {
+        b"buy" => Some(Act::Buy),
+        b"take" => Some(Act::Take),
+        b"return" => Some(Act::Return),
+        _ => None,
     }
 }
 
@@ -194,19 +127,41 @@ impl Run {
 fn without_comment(line: &[u8]) -> &[u8]
     ensures { result.now ≡ uncommented line.now }
 {
-    &line[0..Run::Uncommented.span(line)]
+    split_front(line, |b| b != b'#').0
 }
 
-/// The first word of a text and what follows it; the word is empty where there is none.
-fn next_word(text: &[u8]) -> (&[u8], &[u8])
-    ensures word { result.0.now ≡ first_word text.now }
-    ensures rest { result.1.now ≡ after_word text.now }
+/// The first word of a text and what follows it, where a word is left.
+fn next_word(text: &[u8]) -> Option<(&[u8], &[u8])>
+    ensures found { is_some result ≡ not (absent (first_word text.now)) }
+    ensures parts { IfSome result (λ parts. (parts.0.now ≡ first_word text.now) × (parts.1.now ≡ after_word text.now)) }
 {
-    let (_, text) = text.split_at(Run::Blank.span(text));
-    text.split_at(Run::Word.span(text))
+    let (_, text) = split_front(text, is_blank);
+    let (word, rest) = split_front(text, |b| !is_blank(b));
+    if word.is_empty() {
+        None
+    } else {
+        Some((word, rest))
+    }
+}
+
+fn is_blank(byte: u8) -> bool
+    ensures { result ≡ blank byte }
+{
+    matches!(byte, b' ' | b'\t' | b'\r')
+}
+
+/// The longest front of a text whose bytes all pass a test, and what follows it.
+fn split_front<F: Fn(u8) -> bool>(text: &[u8], passes: F) -> (&[u8], &[u8])
+    requires { F.IsAlwaysCallable passes }
+    ensures { (test : ℕ → Bool) → ((b : ℕ) (r : Bool) → F.post passes b r → r ≡ test b) → IsSplit test text.now result.0.now result.1.now }
+{
+    let n = text.iter().take_while(|b| passes(**b)).count();
+    text.split_at(n)
 }
 
 /// Reads field `k`, a number of at most `most`.
+// Not generic over the number's type: a contract could name that number only by a trait of ours, and callers' casts are
+// proved exact.
 fn field(word: &[u8], k: u8, most: u32) -> Result<u32, Fault>
     ensures value { result ≡ field_read most k word.now }
     ensures bound { IfOk result (λ n. n ≤ most) }
@@ -218,7 +173,8 @@ fn field(word: &[u8], k: u8, most: u32) -> Result<u32, Fault>
     }
 }
 
-/// The number that a word writes. It is held at 2^32, above every limit, so that long words do not overflow.
+/// The number that a word writes. It is held at 2^32, above every limit, so that long words do not overflow; `parse`
+/// would take a sign, and refuse such a word as no number.
 fn number(word: &[u8]) -> Option<u64>
     ensures { result ≡ option_map (λ n. min n 4294967296) (decimal word.now) }
 {
@@ -227,10 +183,8 @@ fn number(word: &[u8]) -> Option<u64>
     }
     let mut n = 0u64;
     for b in word {
-        if !b.is_ascii_digit() {
-            return None;
-        }
-        n = (n * 10 + u64::from(*b - b'0')).min(4294967296);
+        let digit = char::from(*b).to_digit(10)?;
+        n = (n * 10 + u64::from(digit)).min(4294967296);
     }
     Some(n)
 }
@@ -285,10 +239,21 @@ mod tests {
         let (product, amount) = (10, 0x1ff);
         assert_eq!(rt;
             Entry::Buy { product, amount }.command(),
-            [BUY, 10, 0, 0, 1, 0xff, 0, 0, 0, 0]
+            [Act::Buy as u8, 10, 0, 0, 1, 0xff, 0, 0, 0, 0]
         );
         let text = Fault::OutOfRange(2).to_string(rt.alloc())?;
         assert_eq!(rt; text.as_str(), "field 2 is out of range");
+        Ok(())
+    }
+
+    #[test]
+    fn settling(rt: HostRuntime) -> Result<(), Fail> {
+        let mut input: &[u8] = b"buy 7 1\ntake 5 7\ntake 6 7\nsell\n";
+        let quarter = Quarter::settle_from(rt.alloc(), &mut input)?;
+        assert_eq!(rt; quarter.lines, 4);
+        assert_eq!(rt; quarter.granted, 2);
+        assert_eq!(rt; quarter.refused, 1);
+        assert_eq!(rt; quarter.unread.len(), 1);
         Ok(())
     }
 }

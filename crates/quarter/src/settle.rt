@@ -1,11 +1,12 @@
 // A quarter's commands, run on the seat book and noted in the trail.
-ghost use Rattle.std.specs.Prelude.{◌≡◌, true, [], is_ok, IfOk, if◌then◌else◌, fold, OnOk};
+ghost use Rattle.std.specs.Prelude.{◌≡◌, true, is_ok, IfOk, IfSome, if◌then◌else◌};
 ghost use Rattle.quarter.specs.Lines.{line_read};
-ghost use Rattle.quarter.specs.Quarters.{standing, fresh, entered, after_line, lines_from, settled, all_read, BookOfRequests};
+ghost use Rattle.quarter.specs.Quarters.{standing, fresh, entered, after_line, settled, all_read, BookOfRequests};
 
 use crate::{Entry, Fault, read_line};
 use service::{SeatBook, Service, Trail};
 use std::alloc::{AllocError, Global};
+use std::io::{self, Read};
 
 /// A line that says nothing that can be run.
 #[derive(Clone, Copy, PartialEq, Eq, Debug)]
@@ -15,6 +16,7 @@ pub struct Unread {
 }
 
 /// Where a quarter stands after some lines.
+// No model, since callers read the fields: `standing` sums them up.
 #[derive(Drop)]
 pub struct Quarter {
     pub book: SeatBook,
@@ -26,8 +28,10 @@ pub struct Quarter {
 }
 
 impl Quarter {
-    fn empty(heap: Global) -> Quarter
-        ensures { standing result ≡ fresh }
+    /// A quarter of which no line was taken yet.
+    pub fn new(heap: Global) -> Quarter
+        ensures stands { standing result ≡ fresh }
+        ensures book_of_requests { BookOfRequests }
     {
         Quarter {
             book: SeatBook::new(),
@@ -39,14 +43,6 @@ impl Quarter {
         }
     }
 
-    /// A quarter of which no line was taken yet.
-    pub fn new(heap: Global) -> Quarter
-        ensures stands { standing result ≡ fresh }
-        ensures book_of_requests { BookOfRequests }
-    {
-        Quarter::empty(heap)
-    }
-
     fn enter(&mut self, entry: Entry)
         ensures { standing self.new ≡ entered (standing self.old) entry }
     {
@@ -54,6 +50,7 @@ impl Quarter {
         let command = entry.command();
         self.lines = self.lines.saturating_add(1);
         let _ = self.trail.step(client, &command);
+        // a service answers by a number
         if self.book.step(client, &command) == 1 {
             self.granted = self.granted.saturating_add(1);
         } else {
@@ -81,31 +78,24 @@ impl Quarter {
         Ok(())
     }
 
-    // Takes the lines of a text, one after the other.
-    fn text(&mut self, text: &[u8]) -> Result<(), AllocError>
-        ensures stands { OnOk result (standing self.new ≡ fold after_line (standing self.old) (lines_from [] text.now)) }
-        ensures succeeds { all_read text.now ≡ true → is_ok result ≡ true }
-    {
-        let mut start = 0;
-        for i in 0..text.len() {
-            if text[i] == b'\n' {
-                self.line(&text[start..i])?;
-                start = i + 1;
-            }
-        }
-        if start < text.len() {
-            self.line(&text[start..text.len()])?;
-        }
-        Ok(())
-    }
-
     /// Settles a quarter's text, line by line.
     pub fn settle(heap: Global, text: &[u8]) -> Result<Quarter, AllocError>
         ensures stands { IfOk result (λ q. standing q ≡ settled text.now) }
         ensures succeeds { all_read text.now ≡ true → is_ok result ≡ true }
     {
-        let mut q = Quarter::new(heap);
-        q.text(text)?;
-        Ok(q)
+        let mut quarter = Quarter::new(heap);
+        for line in text.split_inclusive(|b| *b == b'\n') {
+            quarter.line(line.strip_suffix(b"\n").unwrap_or(line))?;
+        }
+        Ok(quarter)
+    }
+
+    /// Settles what a reader gives, up to its end.
+    pub fn settle_from<R: Read>(heap: Global, input: &mut R) -> io::Result<Quarter>
+        ensures { IfOk result (λ q. IfSome (R.remaining input.old) (λ text. standing q ≡ settled text)) }
+    {
+        let mut text = Vec::new(heap);
+        input.read_to_end(&mut text)?;
+        Ok(Quarter::settle(heap, &text)?)
     }
 }

@@ -28,7 +28,7 @@ fn message_of(digest: &HashBytes) -> Message
         body: Body::Checkpoint {
             checkpoint: Checkpoint {
                 position: 16,
-                digest: Digest::from_bytes(digest),
+                digest: Digest::from(digest),
             },
         },
     }
@@ -51,9 +51,9 @@ pub(crate) fn print_seal(rt: &HostRuntime, digest: &HashBytes) -> anyhow::Result
     let mut device = GroupKey::new(SIZE, 0, &SAMPLE_KEY, 1);
     let mut record = [0; RECORD_LEN];
     let mut tag = [0; 32];
-    if seal(&mut device, digest, &mut record, &mut tag).is_err() {
-        return Err(anyhow!("the digest could not be sealed"));
-    }
+    seal(&mut device, digest, &mut record, &mut tag).map_err(|_| anyhow!(
+        "the digest could not be sealed"
+    ))?;
     println!(rt; "Sealed as a checkpoint by replica 0 of {SIZE}, under a public sample key")?;
     println!(rt; "Record       {}", Hex(&record))?;
     println!(rt; "Tag          {}", Hex(&tag))?;
@@ -71,12 +71,7 @@ fn print_check(
 ) -> anyhow::Result<()> {
     match check_record(device, SIZE, record, tag) {
         Ok(_) => println!(rt; "{what}    passes")?,
-        Err(refusal) => {
-            let number = refusal.number();
-            let layer = refusal.layer().number();
-            let place = refusal.place();
-            println!(rt; "{what}    refused by question {number}, layer {layer}, place {place}")?;
-        }
+        Err(refusal) => println!(rt; "{what}    refused by {refusal}")?,
     }
     Ok(())
 }

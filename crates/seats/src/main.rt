@@ -5,12 +5,9 @@ mod report;
 
 use quarter::Quarter;
 use report::print_report;
-use std::io::Read;
 
 fn run(rt: &HostRuntime) -> anyhow::Result<()> {
-    let mut text = Vec::new(rt.alloc());
-    rt.stdin().read_to_end(&mut text)?;
-    let quarter = Quarter::settle(rt.alloc(), &text)?;
+    let quarter = Quarter::settle_from(rt.alloc(), &mut rt.stdin())?;
     print_report(rt, &quarter)
 }
 

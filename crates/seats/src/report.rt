@@ -1,6 +1,6 @@
 // The royalty report of a settled quarter.
 use hexadecimal::Hex;
-use quarter::Quarter;
+use quarter::{Quarter, Unread};
 use service::{Product, SeatBook, Service};
 
 pub(crate) fn print_report(rt: &HostRuntime, quarter: &Quarter) -> anyhow::Result<()> {
@@ -21,13 +21,11 @@ fn print_products(rt: &HostRuntime, book: &SeatBook) -> anyhow::Result<()> {
     println!(rt; "Product  Bought  Out  Holders")?;
     let mut bought = 0u32;
     let mut out = 0u32;
-    for i in 0..16u8 {
-        if let Some(product) = book.product(i) {
-            if product.bought > 0 || product.out() > 0 {
-                print_product(rt, i, &product)?;
-                bought = bought.saturating_add(u32::from(product.bought));
-                out = out.saturating_add(product.out());
-            }
+    for (i, product) in (0..16).filter_map(|i| Some((i, book.product(i)?))) {
+        if product.bought > 0 || product.out() > 0 {
+            print_product(rt, i, &product)?;
+            bought = bought.saturating_add(u32::from(product.bought));
+            out = out.saturating_add(product.out());
         }
     }
     println!(rt; " In all  {bought:>6}  {out:>3}")?;
@@ -42,12 +40,9 @@ fn print_product(rt: &HostRuntime, i: u8, product: &Product) -> anyhow::Result<(
     if out == 0 {
         print!(rt; "none")?;
     }
-    let mut before = "";
-    for client in 0..64u16 {
-        if product.holds(client) {
-            print!(rt; "{before}{client}")?;
-            before = " ";
-        }
+    for (k, client) in (0..64).filter(|client| product.holds(*client)).enumerate() {
+        let before = if k > 0 { " " } else { "" };
+        print!(rt; "{before}{client}")?;
     }
     if out > u32::from(bought) {
         print!(rt; "  (more out than bought)")?;
@@ -57,10 +52,13 @@ fn print_product(rt: &HostRuntime, i: u8, product: &Product) -> anyhow::Result<(
 }
 
 fn print_requests(rt: &HostRuntime, quarter: &Quarter) -> anyhow::Result<()> {
-    let granted = quarter.granted;
-    let refused = quarter.refused;
+    let Quarter {
+        granted,
+        refused,
+        lines,
+        ..
+    } = quarter;
     let unread = quarter.unread.len();
-    let lines = quarter.lines;
     println!(rt; "Requests granted  {granted:>6}")?;
     println!(rt; "Requests refused  {refused:>6}")?;
     println!(rt; "Lines not read    {unread:>6}  of {lines}")?;
@@ -73,9 +71,7 @@ fn print_unread(rt: &HostRuntime, quarter: &Quarter) -> anyhow::Result<()> {
         return Ok(());
     }
     println!(rt; "Lines that could not be read, and were passed over:")?;
-    for unread in quarter.unread.iter() {
-        let line = unread.line;
-        let fault = unread.fault;
+    for Unread { line, fault } in &quarter.unread {
         println!(rt; "  line {line:>4}  {fault}")?;
     }
     println!(rt)?;

@@ -1,9 +1,10 @@
-use Rattle.std.proofs.Common.{◌≡◌, ℕ, zero, suc, ◌+◌, ◌-◌, ◌*◌, ◌/◌, ◌%◌, ◌^◌, ◌<◌, ◌≤◌, max, Bool, true, false, cond, not, ◌&&◌, ◌||◌, eqb, sym, refl, ap, ◌∙◌, inl, inr, mod-lt, pow-suc, arith}
-use native.Mathlib.Nat.{div-eq_of_lt, div_self}
-use lib.Bits.{bit_or, bit_xor, differ, or_block, xor_block, or_shr, xor_shr, or_mod, xor_mod, or_step, xor_step, or_zero_r, xor_zero_r}
+use Rattle.std.proofs.Common.{◌≡◌, ℕ, zero, suc, ◌+◌, ◌*◌, ◌/◌, ◌%◌, ◌^◌, ◌<◌, ◌≤◌, max, Bool, true, false, cond, not, ◌&&◌, ◌||◌, eqb, sym, refl, ap, ◌∙◌, inl, inr, mod-lt, pow-suc, arith}
+use lib.Bits.{bit_or, bit_xor, differ, or_block, xor_block, or_step, xor_step, or_zero_r, xor_zero_r}
 use lib.Count.{ones, ones_step, ones_cat, ones-le}
-use Rattle.std.proofs.lemmas.Nat.{pow_pos, pow-add, pow_below, shl-shr, shr_split, div_below, field_of, mod-pow-add}
-use Rattle.std.proofs.lemmas.Bool.{eqb-true, eqb-false, eq-eqb, ne_eqb, cases_order}
+use Rattle.std.proofs.lemmas.Nat.{pow_pos, shr_split, div_below}
+use Rattle.std.specs.Int.{bit_at}
+use Rattle.std.proofs.lemmas.Nat.Bits.{bit_at_or, bit_at_xor, bit_at-pow_same, bit_at-pow_other, bit_at-lt, bit_at_cat_low}
+use Rattle.std.proofs.lemmas.Bool.{eqb-true, eqb-false, eq-eqb, ne_eqb, cases_eq}
 use Rattle.service.specs.Sets.{has, with, without, size}
 use Rattle.service.specs.Laws.{members, SetsStand}
 
@@ -16,39 +17,28 @@ by_bit P p q (suc (suc b)) h = absurd (omega arith)
 -- ---- members
 
 -- the bits of a power of two
-pow_bit : (c d : ℕ) → 2 ^ c / 2 ^ d % 2 ≡ cond (eqb c d) 1 0
+pow_bit : (c d : ℕ) → bit_at (2 ^ c) d ≡ cond (eqb c d) 1 0
 pow_bit c d =
-    elim (cases_order c d) [
-      | inl e ↦ ap (λ k. 2 ^ c / 2 ^ k % 2) (sym e) ∙ ap (λ n. n % 2) (div_self (pow_pos c)) ∙ ap (λ (b : Bool). cond b 1 0) (sym (eq-eqb c d e))
-      | inr o ↦ elim o [
-        | inl l ↦ ap (λ n. n % 2) (div-eq_of_lt (pow_below c d l)) ∙ ap (λ (b : Bool). cond b 1 0) (sym (ne_eqb c d (λ e. omega arith)))
-        | inr g ↦
-            let k = c - d - 1 in
-            let e : c ≡ suc k + d = omega arith in
-            let even : 2 ^ suc k % 2 ≡ 0 = omega (arith, pow-suc 2 k) in
-            ap (λ n. 2 ^ n / 2 ^ d % 2) e ∙ ap (λ n. n / 2 ^ d % 2) (pow-add 2 (suc k) d) ∙ ap (λ n. n % 2) (shl-shr (2 ^ suc k) d) ∙ even
-            ∙ ap (λ (b : Bool). cond b 1 0) (sym (ne_eqb c d (λ e. omega arith)))
-      ]
+    elim (cases_eq c d) [
+      | inl e ↦ rw (eq-eqb c d e, ← e) (bit_at-pow_same c)
+      | inr ne ↦ rw (ne_eqb c d ne) (bit_at-pow_other c d (λ e. ne (sym e)))
     ]
 
-or_bit : (b : ℕ) (t : Bool) → b < 2 → eqb (bit_or b (cond t 1 0)) 1 ≡ (t || eqb b 1)
-or_bit b true h = by_bit (λ b. eqb (bit_or b 1) 1 ≡ true) refl refl b h
-or_bit b false h = by_bit (λ b. eqb (bit_or b 0) 1 ≡ eqb b 1) refl refl b h
+or_bit : (b : ℕ) (t : Bool) → b < 2 → eqb (max b (cond t 1 0)) 1 ≡ (t || eqb b 1)
+or_bit b true h = by_bit (λ b. eqb (max b 1) 1 ≡ true) refl refl b h
+or_bit b false h = by_bit (λ b. eqb (max b 0) 1 ≡ eqb b 1) refl refl b h
 
-xor_bit : (b : ℕ) (t : Bool) → b < 2 → (t ≡ true → b ≡ 1) → eqb (bit_xor b (cond t 1 0)) 1 ≡ (not t && eqb b 1)
-xor_bit b true h one = ap (λ b. eqb (bit_xor b 1) 1) (one refl)
-xor_bit b false h one = by_bit (λ b. eqb (bit_xor b 0) 1 ≡ eqb b 1) refl refl b h
+xor_bit : (b : ℕ) (t : Bool) → b < 2 → (t ≡ true → b ≡ 1) → eqb ((b + cond t 1 0) % 2) 1 ≡ (not t && eqb b 1)
+xor_bit b true h one = rw (one refl)
+xor_bit b false h one = by_bit (λ b. eqb ((b + 0) % 2) 1 ≡ eqb b 1) refl refl b h
 
 adds : (set c d : ℕ) → has (with set c) d ≡ (eqb c d || has set d)
-adds set c d =
-    ap (λ n. eqb (n % 2) 1) (or_shr set (2 ^ c) d) ∙ ap (λ n. eqb n 1) (or_mod (set / 2 ^ d) (2 ^ c / 2 ^ d) 1)
-    ∙ ap (λ n. eqb (bit_or (set / 2 ^ d % 2) n) 1) (pow_bit c d) ∙ or_bit (set / 2 ^ d % 2) (eqb c d) (omega arith)
+adds set c d = rw (bit_at_or set (2 ^ c) d, pow_bit c d) (or_bit (bit_at set d) (eqb c d) (bit_at-lt set d))
 
 takes : (set c d : ℕ) → has set c ≡ true → has (without set c) d ≡ (not (eqb c d) && has set d)
 takes set c d h =
-    let one : eqb c d ≡ true → set / 2 ^ d % 2 ≡ 1 = λ e. ap (λ k. set / 2 ^ k % 2) (sym (eqb-true c d e)) ∙ eqb-true (set / 2 ^ c % 2) 1 h in
-    ap (λ n. eqb (n % 2) 1) (xor_shr set (2 ^ c) d) ∙ ap (λ n. eqb n 1) (xor_mod (set / 2 ^ d) (2 ^ c / 2 ^ d) 1)
-    ∙ ap (λ n. eqb (bit_xor (set / 2 ^ d % 2) n) 1) (pow_bit c d) ∙ xor_bit (set / 2 ^ d % 2) (eqb c d) (omega arith) one
+    let one : eqb c d ≡ true → bit_at set d ≡ 1 = λ e. ap (bit_at set) (sym (eqb-true c d e)) ∙ eqb-true (bit_at set c) 1 h in
+    rw (bit_at_xor set (2 ^ c) d, pow_bit c d) (xor_bit (bit_at set d) (eqb c d) (bit_at-lt set d) one)
 
 -- ---- sizes
 
@@ -107,11 +97,8 @@ size_without s c h =
 -- ---- the size counts the members
 
 -- the bits below n stand in the remainder
-bit_low : (n j s : ℕ) → j < n → s % 2 ^ n / 2 ^ j % 2 ≡ s / 2 ^ j % 2
-bit_low n j s h =
-    let m = n - j - 1 in
-    let e : n ≡ (m + 1) + j = omega arith in
-    ap (λ k. s % 2 ^ k / 2 ^ j % 2) e ∙ ap (λ x. x % 2) (field_of s (m + 1) j) ∙ ap (λ x. x % 2) (mod-pow-add (s / 2 ^ j) m 1) ∙ omega arith
+bit_low : (n j s : ℕ) → j < n → bit_at (s % 2 ^ n) j ≡ bit_at s j
+bit_low n j s h = sym (bit_at_cat_low (s / 2 ^ n) n (s % 2 ^ n) j h) ∙ ap (λ x. bit_at x j) (shr_split s n)
 
 members_low : (n k s : ℕ) → k ≤ n → members (s % 2 ^ n) k ≡ members s k
 members_low n zero s h = refl

@@ -1,11 +1,13 @@
 // Deterministic services that a replica can run.
 #![tactic(auto)]
 
+mod orders;
 mod seats;
 mod service;
 mod trail;
 
-pub use seats::{BUY, Product, RETURN, SeatBook, TAKE};
+pub use orders::{Act, UnknownAct};
+pub use seats::{Product, SeatBook};
 pub use service::{Command, Service};
 pub use trail::Trail;
 
@@ -14,15 +16,15 @@ mod tests {
     use super::*;
     use std::process::Abort;
 
-    const BUY_7_64: Command = [BUY, 7, 0, 0, 0, 64, 0, 0, 0, 0];
+    const BUY_7_64: Command = [Act::Buy as u8, 7, 0, 0, 0, 64, 0, 0, 0, 0];
 
-    const BUY_7_65: Command = [BUY, 7, 0, 0, 0, 65, 0, 0, 0, 0];
+    const BUY_7_65: Command = [Act::Buy as u8, 7, 0, 0, 0, 65, 0, 0, 0, 0];
 
-    const BUY_7_1: Command = [BUY, 7, 0, 0, 0, 1, 0, 0, 0, 0];
+    const BUY_7_1: Command = [Act::Buy as u8, 7, 0, 0, 0, 1, 0, 0, 0, 0];
 
-    const TAKE_7: Command = [TAKE, 7, 0, 0, 0, 0, 0, 0, 0, 0];
+    const TAKE_7: Command = [Act::Take as u8, 7, 0, 0, 0, 0, 0, 0, 0, 0];
 
-    const RETURN_7: Command = [RETURN, 7, 0, 0, 0, 0, 0, 0, 0, 0];
+    const RETURN_7: Command = [Act::Return as u8, 7, 0, 0, 0, 0, 0, 0, 0, 0];
 
     fn answers(rt: &impl Abort, book: &mut SeatBook, client: u16, command: &Command, answer: u64) {
         assert_eq!(rt; book.step(client, command), answer);

@@ -1,22 +1,18 @@
 // The seat book: which client holds a seat of which product.
-ghost use Rattle.std.specs.Prelude.{◌≡◌, ℕ, ◌<◌, List, is_some};
-ghost use Rattle.std.specs.Option.{unwrap_or};
+ghost use Rattle.std.specs.Prelude.{◌≡◌, ℕ, ◌<◌, List};
+ghost use Rattle.std.specs.Option.{option_map};
 ghost use Rattle.service.specs.declared.seats.Product.{Product};
 ghost use Rattle.service.specs.Laws.{SetsStand, NeverOversold, NeverAboveBought};
-ghost use Rattle.service.specs.Seats.{no_product, fresh_book, amount, well_formed, acted, seats_after, seats_answer, seats_digest, entry, out, holds, found_product};
+ghost use Rattle.service.specs.Orders.{number_of};
+ghost use Rattle.service.specs.Seats.{no_product, fresh_book, product, acted, done, seats_after, seats_answer, seats_digest, entry, out, holds, found_product};
 
+use crate::orders::{Act, Order};
 use crate::service::{Command, Service};
 use hash::{HashBytes, Hasher};
 
-// The acts of a command.
-pub const TAKE: u8 = 1;
-
-pub const RETURN: u8 = 2;
-
-pub const BUY: u8 = 3;
-
-// One product: how many seats were bought, and a bit for each client that holds one.
-#[derive(Clone, Copy)]
+// One product: how many seats were bought, and a bit for each client that holds one. The set is bits, since as eight
+// bytes it stands in the digest, and nothing is allocated.
+#[derive(Clone, Copy, PartialEq, Eq, Debug)]
 pub struct Product {
     pub bought: u8,
     holders: u64,
@@ -37,8 +33,8 @@ impl Product {
     fn entry(&self) -> [u8; 9]
         ensures { result ≡ entry self.now }
     {
-        let b = self.holders.to_be_bytes();
-        [self.bought, b[0], b[1], b[2], b[3], b[4], b[5], b[6], b[7]]
+        let [a, b, c, d, e, f, g, h] = self.holders.to_be_bytes();
+        [self.bought, a, b, c, d, e, f, g, h]
     }
 
     // How many seats are out.
@@ -55,49 +51,29 @@ impl Product {
         client < 64 && (self.holders >> client) % 2 == 1
     }
 
-    // Does an act of a client, and says whether it was done.
-    fn act(&mut self, client: u16, act: u8, n: u32) -> bool
+    // What an act of a client makes of the product; nothing where it is not done.
+    fn acted(&self, client: u16, act: Act, n: u32) -> Option<Product>
         requires { client < 64 }
-        ensures after { self.new ≡ unwrap_or (acted self.old client act n) self.old }
-        ensures done { result ≡ is_some (acted self.old client act n) }
+        ensures { result ≡ acted self.now client (number_of act) n }
     {
-        let done = match act {
-            TAKE => n == 0 && !self.holds(client) && self.out() < u32::from(self.bought),
-            RETURN => n == 0 && self.holds(client),
-            BUY => client == 0 && n <= 64,
-            _ => false,
-        };
-        if done {
-            match act {
-                TAKE => self.holders |= 1 << client,
-                RETURN => self.holders ^= 1 << client,
-                _ => self.bought = n as u8,
+        match act {
+            Act::Take if n == 0 && !self.holds(client) && self.out() < u32::from(self.bought) => {
+                Some(Product {
+                    holders: self.holders | 1 << client,
+                    ..*self
+                })
             }
+            Act::Return if n == 0 && self.holds(client) => Some(Product {
+                holders: self.holders ^ 1 << client,
+                ..*self
+            }),
+            Act::Buy if client == 0 && n <= 64 => Some(Product {
+                bought: n as u8,
+                ..*self
+            }),
+            _ => None,
         }
-        done
     }
-}
-
-fn amount_of(command: &Command) -> u32
-    ensures { result ≡ amount command.now }
-{
-    u32::from_be_bytes([command[2], command[3], command[4], command[5]])
-}
-
-fn formed(command: &Command) -> bool
-    ensures { result ≡ well_formed command.now }
-{
-    command[1] < 16 && command[6] == 0 && command[7] == 0 && command[8] == 0 && command[9] == 0
-}
-
-fn digest_of(products: &[Product]) -> HashBytes
-    ensures { result ≡ seats_digest products.now }
-{
-    let mut h = Hasher::new();
-    for p in products {
-        h.update(&p.entry());
-    }
-    h.finish()
 }
 
 #[derive(Drop)]
@@ -122,11 +98,20 @@ impl SeatBook {
     pub fn product(&self, i: u8) -> Option<Product>
         ensures { result ≡ found_product self.now.products i }
     {
-        if i < 16 {
-            Some(self.products[i as usize])
-        } else {
-            None
+        self.products.get(usize::from(i)).copied()
+    }
+
+    // The product of a client's command, and what the command makes of it; nothing where it is not done.
+    fn done(&self, client: u16, command: &Command) -> Option<(u8, Product)>
+        ensures { result ≡ option_map (λ p. (product command.now, p)) (done self.now.products client command.now) }
+    {
+        if client >= 64 {
+            return None;
         }
+        let order = Order::read(command)?;
+        let product = self.products[usize::from(order.product)];
+        let after = product.acted(client, order.act, order.amount)?;
+        Some((order.product, after))
     }
 }
 
@@ -141,19 +126,22 @@ impl Service for SeatBook {
 
     ghost digest = { λ products. seats_digest products };
 
+    // 1 where the command was done: a service answers by a number.
     fn step(&mut self, client: u16, command: &Command) -> u64 {
-        if client >= 64 || !formed(command) {
-            return 0;
-        }
-        let n = amount_of(command);
-        if self.products[command[1] as usize].act(client, command[0], n) {
-            1
-        } else {
-            0
+        match self.done(client, command) {
+            Some((i, product)) => {
+                self.products[usize::from(i)] = product;
+                1
+            }
+            None => 0,
         }
     }
 
     fn digest(&self) -> HashBytes {
-        digest_of(&self.products)
+        let mut h = Hasher::new();
+        for p in &self.products {
+            h.update(&p.entry());
+        }
+        h.finish()
     }
 }

@@ -6,7 +6,7 @@ use hash::HashBytes;
 pub type Command = [u8; 10];
 
 // A service means a state and a fixed step, which turns state, client and command into a state and an answer.
-// Its digest depends on the state alone.
+// Its digest depends on the state alone. Client and command stand apart, as a replica hands them over.
 pub trait Service {
     ghost State: { Type 0 };
 

@@ -1,6 +1,5 @@
 // A trail: a hash chain over all commands, from which a service's order can be checked.
 ghost use Rattle.std.specs.Prelude.{◌≡◌, ℕ, List};
-ghost use Rattle.hash.specs.Bytes.{number_at};
 ghost use Rattle.service.specs.Trails.{fresh_trail, trail_after, trail_answer};
 
 use crate::service::{Command, Service};
@@ -31,15 +30,6 @@ impl Trail {
     }
 }
 
-// The first eight bytes as a number.
-fn first_number(bytes: &HashBytes) -> u64
-    ensures { result ≡ number_at 8 bytes.now 0 }
-{
-    u64::from_be_bytes([
-        bytes[0], bytes[1], bytes[2], bytes[3], bytes[4], bytes[5], bytes[6], bytes[7],
-    ])
-}
-
 impl Service for Trail {
     ghost State = { List ℕ };
 
@@ -52,13 +42,12 @@ impl Service for Trail {
     ghost digest = { λ bytes. bytes };
 
     fn step(&mut self, client: u16, command: &Command) -> u64 {
-        let next = self.next(client, command);
-        self.bytes = next;
-        first_number(&next)
+        self.bytes = self.next(client, command);
+        let [a, b, c, d, e, f, g, h, ..] = self.bytes;
+        u64::from_be_bytes([a, b, c, d, e, f, g, h])
     }
 
     fn digest(&self) -> HashBytes {
-        let Trail { bytes } = self;
-        *bytes
+        self.bytes
     }
 }

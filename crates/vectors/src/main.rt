@@ -11,6 +11,126 @@ const KEY_OF_25: &[u8] = &[
     0x11, 0x12, 0x13, 0x14, 0x15, 0x16, 0x17, 0x18, 0x19,
 ];
 
+const LONG_KEY: &[u8] = &[0xaa; 131];
+
+struct HashExample {
+    name: &'static str,
+    message: &'static [u8],
+    published: &'static str,
+}
+
+// Of some tags only the first bytes are published: `len` says how many.
+struct MacExample {
+    name: &'static str,
+    key: &'static [u8],
+    text: &'static [u8],
+    len: usize,
+    published: &'static str,
+}
+
+const MESSAGES: [HashExample; 3] = [
+    HashExample {
+        name: "empty message",
+        message: b"",
+        published: "e3b0c44298fc1c149afbf4c8996fb92427ae41e4649b934ca495991b7852b855",
+    },
+    HashExample {
+        name: "abc",
+        message: b"abc",
+        published: "ba7816bf8f01cfea414140de5dae2223b00361a396177a9cb410ff61f20015ad",
+    },
+    HashExample {
+        name: "two blocks",
+        message: TWO_BLOCKS,
+        published: "248d6a61d20638b8e5c026930c3e6039a33ce45964ff2167f6ecedd419db06c1",
+    },
+];
+
+const SHORT_MESSAGES: [HashExample; 6] = [
+    HashExample {
+        name: "short message, 1 byte",
+        message: &[0xd3],
+        published: "28969cdfa74a12c82f3bad960b0b000aca2ac329deea5c2328ebc6f2ba9802c1",
+    },
+    HashExample {
+        name: "short message, 2 bytes",
+        message: &[0x11, 0xaf],
+        published: "5ca7133fa735326081558ac312c620eeca9970d1e70a4b95533d956f072d1f98",
+    },
+    HashExample {
+        name: "short message, 3 bytes",
+        message: &[0xb4, 0x19, 0x0e],
+        published: "dff2e73091f6c05e528896c4c831b9448653dc2ff043528f6769437bc7b975c2",
+    },
+    HashExample {
+        name: "short message, 4 bytes",
+        message: &[0x74, 0xba, 0x25, 0x21],
+        published: "b16aa56be3880d18cd41e68384cf1ec8c17680c45a02b1575dc1518923ae8b0e",
+    },
+    HashExample {
+        name: "short message, 5 bytes",
+        message: &[0xc2, 0x99, 0x20, 0x96, 0x82],
+        published: "f0887fe961c9cd3beab957e8222494abb969b1ce4c6557976df8b0f6d20e9166",
+    },
+    HashExample {
+        name: "short message, 8 bytes",
+        message: &[0x57, 0x38, 0xc9, 0x29, 0xc4, 0xf4, 0xcc, 0xb6],
+        published: "963bb88f27f512777aab6c8b1a02c70ec0ad651d428f870036e1917120fb48bf",
+    },
+];
+
+const MACS: [MacExample; 7] = [
+    MacExample {
+        name: "hmac 1",
+        key: &[0x0b; 20],
+        text: b"Hi There",
+        len: 32,
+        published: "b0344c61d8db38535ca8afceaf0bf12b881dc200c9833da726e9376c2e32cff7",
+    },
+    MacExample {
+        name: "hmac 2, short key",
+        key: b"Jefe",
+        text: b"what do ya want for nothing?",
+        len: 32,
+        published: "5bdcc146bf60754e6a042426089575c75a003f089d2739839dec58b964ec3843",
+    },
+    MacExample {
+        name: "hmac 3, 50 bytes",
+        key: &[0xaa; 20],
+        text: &[0xdd; 50],
+        len: 32,
+        published: "773ea91e36800e46854db8ebd09181a72959098b3ef8c122d9635514ced565fe",
+    },
+    MacExample {
+        name: "hmac 4, key of 25",
+        key: KEY_OF_25,
+        text: &[0xcd; 50],
+        len: 32,
+        published: "82558a389a443c0ea4cc819899f2083a85f0faa3e578f8077a2e3ff46729665b",
+    },
+    MacExample {
+        name: "hmac 5, first 16 bytes",
+        key: &[0x0c; 20],
+        text: b"Test With Truncation",
+        len: 16,
+        published: "a3b6167473100ee06e0c796c2955552b",
+    },
+    MacExample {
+        name: "hmac 6, long key",
+        key: LONG_KEY,
+        text: b"Test Using Larger Than Block-Size Key - Hash Key First",
+        len: 32,
+        published: "60e431591ee0b67f0d8a26aacbf5b77f8e0bc6213728c5140546040f0ee37f54",
+    },
+    MacExample {
+        name: "hmac 7, long key and text",
+        key: LONG_KEY,
+        text: b"This is a test using a larger than block-size key and a larger than block-size data. The key needs to be hashed before being used by the HMAC algorithm.",
+        len: 32,
+        published: "9b09ffa71b942fcb27635fbcd5b0e944bfdc63644f0713938a7f51535c3a35e2",
+    },
+];
+
 // How many examples came out as published, of how many.
 #[derive(Drop)]
 struct Score {
@@ -38,25 +158,21 @@ impl Score {
         Ok(())
     }
 
-    fn hash(
-        &mut self,
-        rt: &HostRuntime,
-        name: &str,
-        message: &[u8],
-        published: &str,
-    ) -> anyhow::Result<()> {
-        self.note(rt, name, &sha256(message), published)
+    fn hashes(&mut self, rt: &HostRuntime, examples: &[HashExample]) -> anyhow::Result<()> {
+        for example in examples {
+            let came = sha256(example.message);
+            self.note(rt, example.name, &came, example.published)?;
+        }
+        Ok(())
     }
 
-    fn mac(
-        &mut self,
-        rt: &HostRuntime,
-        name: &str,
-        key: &[u8],
-        text: &[u8],
-        published: &str,
-    ) -> anyhow::Result<()> {
-        self.note(rt, name, &hmac(key, text), published)
+    fn macs(&mut self, rt: &HostRuntime, examples: &[MacExample]) -> anyhow::Result<()> {
+        for example in examples {
+            let came = hmac(example.key, example.text);
+            let len = example.len.min(came.len());
+            self.note(rt, example.name, &came[..len], example.published)?;
+        }
+        Ok(())
     }
 }
 
@@ -70,134 +186,18 @@ fn million() -> HashBytes {
     h.finish()
 }
 
-fn hashes(rt: &HostRuntime, score: &mut Score) -> anyhow::Result<()> {
-    score.hash(
-        rt,
-        "empty message",
-        b"",
-        "e3b0c44298fc1c149afbf4c8996fb92427ae41e4649b934ca495991b7852b855",
-    )?;
-    score.hash(
-        rt,
-        "abc",
-        b"abc",
-        "ba7816bf8f01cfea414140de5dae2223b00361a396177a9cb410ff61f20015ad",
-    )?;
-    score.hash(
-        rt,
-        "two blocks",
-        TWO_BLOCKS,
-        "248d6a61d20638b8e5c026930c3e6039a33ce45964ff2167f6ecedd419db06c1",
-    )?;
+fn run(rt: &HostRuntime) -> anyhow::Result<()> {
+    let mut score = Score { right: 0, all: 0 };
+    score.hashes(rt, &MESSAGES)?;
     score.note(
         rt,
         "a million a",
         &million(),
         "cdc76e5c9914fb9281a1c7e284d73e67f1809a48a497200e046d39ccc7112cd0",
-    )
-}
-
-fn short_messages(rt: &HostRuntime, score: &mut Score) -> anyhow::Result<()> {
-    score.hash(
-        rt,
-        "short message, 1 byte",
-        &[0xd3],
-        "28969cdfa74a12c82f3bad960b0b000aca2ac329deea5c2328ebc6f2ba9802c1",
     )?;
-    score.hash(
-        rt,
-        "short message, 2 bytes",
-        &[0x11, 0xaf],
-        "5ca7133fa735326081558ac312c620eeca9970d1e70a4b95533d956f072d1f98",
-    )?;
-    score.hash(
-        rt,
-        "short message, 3 bytes",
-        &[0xb4, 0x19, 0x0e],
-        "dff2e73091f6c05e528896c4c831b9448653dc2ff043528f6769437bc7b975c2",
-    )?;
-    score.hash(
-        rt,
-        "short message, 4 bytes",
-        &[0x74, 0xba, 0x25, 0x21],
-        "b16aa56be3880d18cd41e68384cf1ec8c17680c45a02b1575dc1518923ae8b0e",
-    )?;
-    score.hash(
-        rt,
-        "short message, 5 bytes",
-        &[0xc2, 0x99, 0x20, 0x96, 0x82],
-        "f0887fe961c9cd3beab957e8222494abb969b1ce4c6557976df8b0f6d20e9166",
-    )?;
-    score.hash(
-        rt,
-        "short message, 8 bytes",
-        &[0x57, 0x38, 0xc9, 0x29, 0xc4, 0xf4, 0xcc, 0xb6],
-        "963bb88f27f512777aab6c8b1a02c70ec0ad651d428f870036e1917120fb48bf",
-    )
-}
-
-fn macs(rt: &HostRuntime, score: &mut Score) -> anyhow::Result<()> {
-    let long_key = [0xaau8; 131];
-    score.mac(
-        rt,
-        "hmac 1",
-        &[0x0b; 20],
-        b"Hi There",
-        "b0344c61d8db38535ca8afceaf0bf12b881dc200c9833da726e9376c2e32cff7",
-    )?;
-    score.mac(
-        rt,
-        "hmac 2, short key",
-        b"Jefe",
-        b"what do ya want for nothing?",
-        "5bdcc146bf60754e6a042426089575c75a003f089d2739839dec58b964ec3843",
-    )?;
-    score.mac(
-        rt,
-        "hmac 3, 50 bytes",
-        &[0xaa; 20],
-        &[0xdd; 50],
-        "773ea91e36800e46854db8ebd09181a72959098b3ef8c122d9635514ced565fe",
-    )?;
-    score.mac(
-        rt,
-        "hmac 4, key of 25",
-        KEY_OF_25,
-        &[0xcd; 50],
-        "82558a389a443c0ea4cc819899f2083a85f0faa3e578f8077a2e3ff46729665b",
-    )?;
-    let cut = hmac(&[0x0c; 20], b"Test With Truncation");
-    score.note(
-        rt,
-        "hmac 5, first 16 bytes",
-        &cut[0..16],
-        "a3b6167473100ee06e0c796c2955552b",
-    )?;
-    score.mac(
-        rt,
-        "hmac 6, long key",
-        &long_key,
-        b"Test Using Larger Than Block-Size Key - Hash Key First",
-        "60e431591ee0b67f0d8a26aacbf5b77f8e0bc6213728c5140546040f0ee37f54",
-    )?;
-    let text =
-        b"This is a test using a larger than block-size key and a larger than block-size data. The key needs to be hashed before being used by the HMAC algorithm.";
-    score.mac(
-        rt,
-        "hmac 7, long key and text",
-        &long_key,
-        text,
-        "9b09ffa71b942fcb27635fbcd5b0e944bfdc63644f0713938a7f51535c3a35e2",
-    )
-}
-
-fn run(rt: &HostRuntime) -> anyhow::Result<()> {
-    let mut score = Score { right: 0, all: 0 };
-    hashes(rt, &mut score)?;
-    short_messages(rt, &mut score)?;
-    macs(rt, &mut score)?;
-    let right = score.right;
-    let all = score.all;
+    score.hashes(rt, &SHORT_MESSAGES)?;
+    score.macs(rt, &MACS)?;
+    let Score { right, all } = score;
     println!(rt; "{right} of {all} examples as published")?;
     Ok(())
 }
