@@ -92,7 +92,7 @@ impl Words {
     }
 
     // Eight rounds, from the round i on. As many are unrolled, and then no word moves from one variable to the next.
-    // The whole schedule is handed over with the place, since what follows those eight words is not made yet.
+    // The schedule is handed over with the place, since the promise names the round, and the constants go by it.
     fn eight_rounds(self, ws: &[u32; 64], i: usize) -> Words
         requires { i + 8 ≤ 64 }
         ensures { (all : List ℕ) (start : Words) → take (i + 8) ws.now ≡ take (i + 8) all → self ≡ rounds all start i → result ≡ rounds all start (i + 8) }
