@@ -21,21 +21,24 @@ request_length = 16
 abbrev pub record_length : ℕ
 record_length = 48
 
--- The number of each kind of message.
-abbrev pub kind_of : Body → ℕ
-kind_of (kinds.Prepare view request) = 1
-kind_of (kinds.Commit vouch) = 2
-kind_of (kinds.Checkpoint checkpoint) = 3
-kind_of (kinds.ViewChange view vouch) = 4
-kind_of (kinds.NewView view pairs) = 5
-
--- The same of the kinds themselves.
+-- The kinds of message have numbers.
 abbrev pub number_of_kind : Kind → ℕ
 number_of_kind numbered.Prepare = 1
 number_of_kind numbered.Commit = 2
 number_of_kind numbered.Checkpoint = 3
 number_of_kind numbered.ViewChange = 4
 number_of_kind numbered.NewView = 5
+
+-- The kind of a body, and its number.
+abbrev pub kind_named : Body → Kind
+kind_named (kinds.Prepare view request) = numbered.Prepare
+kind_named (kinds.Commit vouch) = numbered.Commit
+kind_named (kinds.Checkpoint checkpoint) = numbered.Checkpoint
+kind_named (kinds.ViewChange view vouch) = numbered.ViewChange
+kind_named (kinds.NewView view pairs) = numbered.NewView
+
+abbrev pub kind_of : Body → ℕ
+kind_of b = number_of_kind (kind_named b)
 
 abbrev pub every_kind : List Kind
 every_kind = numbered.Prepare ∷ (numbered.Commit ∷ (numbered.Checkpoint ∷ (numbered.ViewChange ∷ (numbered.NewView ∷ []))))

@@ -1,7 +1,7 @@
 // Messages, as values.
 ghost use Rattle.std.specs.Prelude.{◌≡◌};
 ghost use Rattle.wire.specs.Laws.{DigestIsKept};
-ghost use Rattle.wire.specs.Messages.{number_of_kind, kind_of, kind_of_number, digest_at, digest_bytes};
+ghost use Rattle.wire.specs.Messages.{number_of_kind, kind_named, kind_of_number, digest_at, digest_bytes};
 
 use crate::reader::digest_of;
 use crate::refusal::Refusal;
@@ -129,7 +129,7 @@ impl TryFrom<u8> for Kind {
 
 impl Body {
     pub fn kind(&self) -> Kind
-        ensures { number_of_kind result ≡ kind_of self.now }
+        ensures { result ≡ kind_named self.now }
     {
         match self {
             Body::Prepare { .. } => Kind::Prepare,
