@@ -55,7 +55,7 @@ impl Entry {
             Entry::Return { product, .. } => (Act::Return, product, 0),
         };
         let [a, b, c, d] = amount.to_be_bytes();
-        [act as u8, product, a, b, c, d, 0, 0, 0, 0]
+        [act.number(), product, a, b, c, d, 0, 0, 0, 0]
     }
 
     /// The entry that an act and its two fields make.

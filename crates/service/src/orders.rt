@@ -1,6 +1,6 @@
 // What a command asks of the seat book.
 ghost use Rattle.std.specs.Prelude.{◌≡◌, ◌<◌, IfSome};
-ghost use Rattle.service.specs.Orders.{act_numbered, order_of};
+ghost use Rattle.service.specs.Orders.{act_numbered, number_of, order_of};
 
 use crate::service::Command;
 
@@ -10,6 +10,14 @@ pub enum Act {
     Take = 1,
     Return = 2,
     Buy = 3,
+}
+
+impl Act {
+    pub fn number(self) -> u8
+        ensures { result ≡ number_of self }
+    {
+        self as u8
+    }
 }
 
 // A number that no act has.
