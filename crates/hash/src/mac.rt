@@ -36,7 +36,11 @@ fn key_block(key: &[u8]) -> Block
 fn mix(block: &Block, b: u8) -> Block
     ensures { result ≡ mixed block.now b }
 {
-    block.map(|byte| byte ^ b)
+    let mut out = *block;
+    for byte in out.iter_mut() {
+        *byte ^= b;
+    }
+    out
 }
 
 // The hash value after a block mixed with a byte.

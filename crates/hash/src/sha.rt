@@ -19,18 +19,20 @@ fn absorb(start: Words, bytes: &[u8]) -> (Words, &[u8])
     (s, rest)
 }
 
-// The end of a message as blocks: its last bytes, the one bit, zeros, and its length in bits.
-fn padded<const N: usize>(tail: &[u8], bits: &[u8; 8]) -> [u8; N]
-    requires { length tail.now + 9 ≤ N }
-    ensures { result ≡ tail.now ++ (128 ∷ (replicate (N - (length tail.now + 9)) 0 ++ bits.now)) }
+// The hash value after the blocks that end a message: its last bytes, the one bit, zeros, and its length in bits. They
+// are laid out and hashed in one place, so that the last bytes are copied once.
+fn after_end<const N: usize>(state: Words, tail: &[u8], bits: &[u8; 8]) -> Words
+    requires fits { length tail.now + 9 ≤ N }
+    requires few { N ≤ 128 }
+    ensures { result ≡ after_all state (tail.now ++ (128 ∷ (replicate (N - (length tail.now + 9)) 0 ++ bits.now))) }
 {
-    let mut out = [0; N];
-    let end = &mut out[..];
+    let mut blocks = [0; N];
+    let end = &mut blocks[..];
     let n = tail.len();
     end[..n].copy_from_slice(tail);
     end[n] = 128;
     end[N - 8..].copy_from_slice(bits);
-    out
+    absorb(state, &blocks).0
 }
 
 // The hash value after the last bytes of a message and its padding; `len` is the message's length.
@@ -40,9 +42,9 @@ fn close(state: Words, tail: &[u8], len: u64) -> Words
 {
     let bits = len.wrapping_mul(8).to_be_bytes();
     if tail.len() < 56 {
-        absorb(state, &padded::<64>(tail, &bits)).0
+        after_end::<64>(state, tail, &bits)
     } else {
-        absorb(state, &padded::<128>(tail, &bits)).0
+        after_end::<128>(state, tail, &bits)
     }
 }
 
