@@ -103,23 +103,15 @@ fn record_bytes(message: &Message) -> RecordBytes
     out
 }
 
-// Writes bytes over a buffer of their length.
-fn fill<const N: usize>(buffer: Buffer, bytes: &[u8; N], out: &mut [u8]) -> Result<(), Refusal>
-    ensures value { result ≡ fitted N buffer out.old }
-    ensures bytes { out.new ≡ filled N bytes.now out.old }
-{
-    buffer.fits(out, N)?;
-    out.copy_from_slice(bytes);
-    Ok(())
-}
-
 // Writes a message into a record of 48 bytes.
 pub fn write(message: &Message, record: &mut [u8]) -> Result<(), Refusal>
     ensures value { result ≡ fitted record_length Record «record».old }
     ensures bytes { «record».new ≡ filled record_length (bytes_of message.now) «record».old }
     ensures written_is_read { WrittenIsRead }
 {
-    fill(Buffer::Record, &record_bytes(message), record)
+    Buffer::Record.fits(record, RECORD_LEN)?;
+    record.copy_from_slice(&record_bytes(message));
+    Ok(())
 }
 
 // Writes a request into a buffer of 16 bytes.
@@ -128,5 +120,7 @@ pub fn write_request(request: &Request, out: &mut [u8]) -> Result<(), Refusal>
     ensures bytes { out.new ≡ filled request_length (request_bytes request.now) out.old }
     ensures written_request_is_read { WrittenRequestIsRead }
 {
-    fill(Buffer::Request, &request_bytes(request), out)
+    Buffer::Request.fits(out, REQUEST_LEN)?;
+    out.copy_from_slice(&request_bytes(request));
+    Ok(())
 }
