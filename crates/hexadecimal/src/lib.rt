@@ -1,8 +1,8 @@
 // Bytes as hexadecimal text.
 #![tactic(auto)]
 
-ghost use Rattle.std.specs.Prelude.{Some};
-ghost use Rattle.hexadecimal.specs.Texts.{hex_text};
+ghost use Rattle.std.specs.Prelude.{◌≡◌, ◌<◌, Some};
+ghost use Rattle.hexadecimal.specs.Texts.{hex_digit, hex_text};
 
 use std::fmt;
 
@@ -14,11 +14,21 @@ impl fmt::Display for Hex<'_> {
     ghost output = { λ hex. Some (hex_text hex.0.now) };
 
     fn fmt<W: fmt::Write>(&self, f: &mut fmt::Formatter<W>) -> fmt::Result {
-        for &b in self.0 {
-            write!(f, "{b:02x}")?;
+        for b in self.0 {
+            f.write_char(hex_digit(b / 16))?;
+            f.write_char(hex_digit(b % 16))?;
         }
         Ok(())
     }
+}
+
+// A digit as a character. Two of them take less time than `{:02x}`, which lays out each byte as a number.
+fn hex_digit(d: u8) -> char
+    requires { d < 16 }
+    ensures value { result ≡ hex_digit d }
+    ensures ascii { result < 128 }
+{
+    char::from_digit(u32::from(d), 16).unwrap()
 }
 
 #[cfg(test)]
