@@ -1,5 +1,6 @@
 // A quarter's commands, run on the seat book and noted in the trail.
-ghost use Rattle.std.specs.Prelude.{◌≡◌, true, is_ok, IfOk, IfSome, if◌then◌else◌};
+ghost use Rattle.std.specs.Prelude.{◌≡◌, ℕ, List, true, is_ok, IfOk, IfSome, if◌then◌else◌};
+ghost use Rattle.std.specs.Io.KnownBytes.{IsAtEnd};
 ghost use Rattle.quarter.specs.Lines.{line_read};
 ghost use Rattle.quarter.specs.Quarters.{standing, fresh, entered, after_line, settled, all_read, BookOfRequests};
 
@@ -92,7 +93,8 @@ impl Quarter {
 
     /// Settles what a reader gives, up to its end.
     pub fn settle_from<R: Read>(heap: Global, input: &mut R) -> io::Result<Quarter>
-        ensures { IfOk result (λ q. IfSome (R.remaining input.old) (λ text. standing q ≡ settled text)) }
+        ensures settles { IfOk result (λ q. (text : List ℕ) × IfSome (R.remaining input.old) (λ given. text ≡ given) × (standing q ≡ settled text)) }
+        ensures ends { IfOk result (λ _. IsAtEnd (R.remaining input.new)) }
     {
         let mut text = Vec::new(heap);
         input.read_to_end(&mut text)?;

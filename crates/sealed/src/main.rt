@@ -6,9 +6,12 @@ mod seal;
 use quarter::Quarter;
 use seal::print_seal;
 use service::Service;
+use std::io::Read;
 
 fn run(rt: &HostRuntime) -> anyhow::Result<()> {
-    let quarter = Quarter::settle_from(rt.alloc(), &mut rt.stdin())?;
+    let mut text = Vec::new(rt.alloc());
+    rt.stdin().read_to_end(&mut text)?;
+    let quarter = Quarter::settle(rt.alloc(), &text)?;
     print_seal(rt, &quarter.book.digest())
 }
 

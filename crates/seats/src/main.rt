@@ -5,9 +5,12 @@ mod report;
 
 use quarter::Quarter;
 use report::print_report;
+use std::io::Read;
 
 fn run(rt: &HostRuntime) -> anyhow::Result<()> {
-    let quarter = Quarter::settle_from(rt.alloc(), &mut rt.stdin())?;
+    let mut text = Vec::new(rt.alloc());
+    rt.stdin().read_to_end(&mut text)?;
+    let quarter = Quarter::settle(rt.alloc(), &text)?;
     print_report(rt, &quarter)
 }
 
